@@ -20,7 +20,7 @@ use Rattle.replay_run.specs.Laws as circuits
 use Rattle.source_files.specs.Faults.{RunFault}
 use Rattle.stages.specs.Stages.{LeadsTo}
 use Rattle.replay_command.specs.Work.{work}
-use Rattle.replay_command.specs.Played.{IsAsked, Plays}
+use Rattle.replay_command.specs.Played.{Plays, PlaysChipOf}
 use Rattle.replay_command.specs.Replayed.{ReplaysFollow}
 use Rattle.compile_command.proofs.Compiling.{compiled}
 use Rattle.source_files.proofs.StimulusRules.{pads_for}
@@ -40,22 +40,29 @@ a_replay exist net given has =
       record { end = told.0; front = told.1; transcript = told.2; lines = refl },
     )
 
-module _ (source stimulus cif chip : List ℕ) (checked : CheckedProgram) (given : Stimulus)
-    (asked : IsAsked checked.program given chip) where
+-- what is played of a chip
+pub of_chip : (program : Program) (given : Stimulus) (chip : List ℕ) → IsSmallChipOf program chip
+    → (bytes text : List ℕ) → Plays chip given bytes text → PlaysChipOf program given bytes text
+of_chip program given chip masks bytes text plays = (
+  subst (IsSmallChipOf program) (sym plays.same) masks,
+  record { same = refl; network = plays.network; drawn = plays.drawn; replay = plays.replay },
+)
+
+module _ (source stimulus cif : List ℕ) (checked : CheckedProgram) (given : Stimulus)
+    (padded : ArePadsOf checked.program given.pads) where
   shown : (files : Files) → IsSource (bytes_of files source) checked.program
       → IsStimulus (bytes_of files stimulus) (Some checked.pads) given
-      → (bytes text : List ℕ) → Plays chip given bytes text
+      → (bytes text : List ℕ) → PlaysChipOf checked.program given bytes text
       → (work source stimulus cif).Shows files bytes text
-  shown files spelled read bytes text plays = (
-    compiled (bytes_of files source) bytes checked.program
-        (subst (IsSmallChipOf checked.program) (sym plays.same) asked.masks) spelled,
+  shown files spelled read bytes text (masks, plays) = (
+    compiled (bytes_of files source) bytes checked.program masks spelled,
     record {
       program = checked.program;
       pads = checked.pads;
       given = given;
       network = plays.network;
       is_source = spelled;
-      padded = pads_for checked (bytes_of files stimulus) given asked.padded read;
+      padded = pads_for checked (bytes_of files stimulus) given padded read;
       is_stimulus = read;
       drawn = plays.drawn;
       replay = plays.replay;
@@ -66,7 +73,7 @@ module _ (source stimulus cif chip : List ℕ) (checked : CheckedProgram) (given
   pub leads : (held : Option Files) → IfSome held (λ files. RunFault source stimulus files None)
       → IfSome held (λ files. IsSource (bytes_of files source) checked.program)
       → IfSome held (λ files. IsStimulus (bytes_of files stimulus) (Some checked.pads) given)
-      → IfSome held (LeadsTo (work source stimulus cif) (Plays chip given))
+      → IfSome held (LeadsTo (work source stimulus cif) (PlaysChipOf checked.program given))
   leads None fault spelled read = tt
   leads (Some files) fault spelled read = (fault, shown files spelled read)
 

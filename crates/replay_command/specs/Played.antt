@@ -22,3 +22,7 @@ pub record Plays (chip : List ℕ) (given : Stimulus) (bytes text : List ℕ) : 
   pub network : Network
   pub drawn : IsNetOf bytes network
   pub replay : IsReplay network given text
+
+-- the same of the bytes of a chip of the program
+abbrev pub PlaysChipOf : Program → Stimulus → List ℕ → List ℕ → Type 0
+PlaysChipOf program given bytes text = IsSmallChipOf program bytes × Plays bytes given bytes text

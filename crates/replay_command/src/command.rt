@@ -6,10 +6,10 @@ ghost use Rattle.outcome.specs.World.{world_of, HasCauses, Leaves};
 ghost use Rattle.outcome.specs.Halt.{Ends, IsQuiet, status_of};
 ghost use Rattle.replay_command.specs.Work.{work};
 
-use crate::asked::ask;
 use crate::played::play;
 use outcome::Halt;
 use outside::{Depot, Sink};
+use source_files::prepare;
 use std::alloc::Global;
 
 /// Writes the CIF file of a chip for the source, and prints the transcript of the circuit that its bytes draw, along
@@ -35,6 +35,8 @@ pub fn replay<D: Depot, O: Sink>(
         (world depot.old out.old) (world depot.new out.new) }
     ensures silent { IsQuiet result (O.held out.old) (O.held out.new) }
 {
-    let asked = ask(alloc, depot, source, stimulus)?;
-    play(alloc, depot, out, cif, &asked)
+    let made = prepare(alloc, depot, source, stimulus)?;
+    let played = play(alloc, depot, out, cif, &made);
+    drop(made);
+    played
 }

@@ -1,7 +1,6 @@
 //! The masks of a source, and the run of the circuit that they draw.
 #![tactic(auto)]
 
-mod asked;
 mod command;
 pub mod laws;
 mod played;
