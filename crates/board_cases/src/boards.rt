@@ -16,7 +16,7 @@ use std::alloc::{AllocError, Global};
 use std::{fs, io};
 use trace_run::Source;
 
-/// What a board printed, whether a write failed, and what its parts drive afterwards.
+/// What a board printed, whether a write failed, and what its parts drive afterwards, or why it didn't run.
 #[derive(Drop)]
 struct Outcome {
     printed: Vec<u8>,
@@ -103,7 +103,27 @@ fn run(
     }
     let links = links_of(alloc, row.links, parts, pads)?;
     let mut board = Board::open(alloc, pads, links, checked.stores())?;
-    run_on(alloc, checked, &mut board, parts, row.clocks, out)
+    let failed = run_on(alloc, checked, &mut board, parts, row.clocks, out);
+    drop(board);
+    failed
+}
+
+// The rule that words of links break, at a word.
+fn broken_words(alloc: Global, broken: &Broken) -> Result<String, AllocError> {
+    match &broken.spot {
+        Spot::Named(name) => {
+            let word = String::from_utf8_lossy(alloc, name.bytes())?;
+            format!(in alloc; " B{} {word}", broken.rule.number)
+        }
+        _ => String::from_str(alloc, " another rule"),
+    }
+}
+
+fn refusal_words(alloc: Global, refusal: &Refusal) -> Result<String, AllocError> {
+    match refusal {
+        Refusal::Broken(broken) => broken_words(alloc, broken),
+        Refusal::NoMemory => String::from_str(alloc, " not enough memory"),
+    }
 }
 
 // What was printed, and what the parts drive then.
@@ -112,7 +132,7 @@ fn outcome_after(
     printed: &[u8],
     failed: bool,
     parts: &[NamedPart],
-) -> Result<Outcome, Refusal> {
+) -> Result<Outcome, AllocError> {
     let printed = Vec::from_slice(alloc, printed)?;
     let told = told_by(alloc, parts)?;
     Ok(Outcome {
@@ -122,6 +142,30 @@ fn outcome_after(
     })
 }
 
+// Nothing was printed.
+fn refused(alloc: Global, refusal: &Refusal) -> Result<Outcome, AllocError> {
+    let told = refusal_words(alloc, refusal)?;
+    Ok(Outcome {
+        printed: Vec::new(alloc),
+        failed: false,
+        told,
+    })
+}
+
+// Runs the program of a row with these parts.
+fn outcome_on(
+    alloc: Global,
+    checked: &Checked,
+    row: Row<'_>,
+    parts: &mut Vec<NamedPart>,
+    out: &mut MemSink,
+) -> Result<Outcome, AllocError> {
+    match run(alloc, checked, row, parts, out) {
+        Ok(failed) => outcome_after(alloc, out.bytes(), failed, parts),
+        Err(refusal) => refused(alloc, &refusal),
+    }
+}
+
 // Runs the program of a row with these parts, where one write fails.
 fn outcome_with(
     alloc: Global,
@@ -129,10 +173,11 @@ fn outcome_with(
     row: Row<'_>,
     call: Option<u64>,
     parts: &mut Vec<NamedPart>,
-) -> Result<Outcome, Refusal> {
+) -> Result<Outcome, AllocError> {
     let mut out = sink(alloc, call)?;
-    let failed = run(alloc, checked, row, parts, &mut out)?;
-    outcome_after(alloc, out.bytes(), failed, parts)
+    let outcome = outcome_on(alloc, checked, row, parts, &mut out);
+    drop(out);
+    outcome
 }
 
 // Runs the program of a row with a counter, a shifter, an echo, a memory, a part that counts its moves, and a second
@@ -142,7 +187,7 @@ fn outcome_of(
     checked: &Checked,
     row: Row<'_>,
     call: Option<u64>,
-) -> Result<Result<Outcome, Refusal>, AllocError> {
+) -> Result<Outcome, AllocError> {
     let mut parts = Vec::new(alloc);
     let watch = Watch { moves: 0, seen: 0 };
     add(
@@ -161,25 +206,16 @@ fn outcome_of(
     add(alloc, &mut parts, "memory", Box::new(alloc, Memory::new())?)?;
     add(alloc, &mut parts, "watch", Box::new(alloc, watch)?)?;
     add(alloc, &mut parts, "echo", Box::new(alloc, Counter::new())?)?;
-    Ok(outcome_with(alloc, checked, row, call, &mut parts))
+    outcome_with(alloc, checked, row, call, &mut parts)
 }
 
-fn show_broken(rt: &HostRuntime, broken: &Broken) -> io::Result<()> {
-    let number = broken.rule.number;
-    match &broken.spot {
-        Spot::Named(name) => {
-            let word = String::from_utf8_lossy(rt.alloc(), name.bytes())?;
-            println!(rt; "    B{number} {word}")
-        }
-        _ => println!(rt; "    another rule"),
-    }
+fn show_told(rt: &HostRuntime, told: &str) -> io::Result<()> {
+    println!(rt; "   {told}")
 }
 
 fn show_refusal(rt: &HostRuntime, refusal: &Refusal) -> io::Result<()> {
-    match refusal {
-        Refusal::Broken(broken) => show_broken(rt, broken),
-        Refusal::NoMemory => println!(rt; "    not enough memory"),
-    }
+    let words = refusal_words(rt.alloc(), refusal)?;
+    show_told(rt, words.as_str())
 }
 
 fn show_lines(rt: &HostRuntime, text: &[u8]) -> io::Result<()> {
@@ -235,13 +271,8 @@ fn show_call(
     whole: &[u8],
     told: &mut Option<u64>,
 ) -> io::Result<bool> {
-    match outcome_of(rt.alloc(), checked, row, Some(call))? {
-        Ok(outcome) => show_next(rt, &outcome, whole, told),
-        Err(refusal) => {
-            show_refusal(rt, &refusal)?;
-            Ok(false)
-        }
-    }
+    let outcome = outcome_of(rt.alloc(), checked, row, Some(call))?;
+    show_next(rt, &outcome, whole, told)
 }
 
 // Each write fails in turn. Those in one line are told once.
@@ -262,7 +293,7 @@ fn show_outcome(
     outcome: &Outcome,
 ) -> io::Result<()> {
     show_lines(rt, &outcome.printed)?;
-    println!(rt; "   {}", outcome.told)?;
+    show_told(rt, outcome.told.as_str())?;
     if row.fails {
         show_cuts(rt, checked, row, &outcome.printed)?;
     }
@@ -270,16 +301,14 @@ fn show_outcome(
 }
 
 fn show_run(rt: &HostRuntime, checked: &Checked, row: Row<'_>) -> io::Result<()> {
-    match outcome_of(rt.alloc(), checked, row, None)? {
-        Ok(outcome) => show_outcome(rt, checked, row, &outcome),
-        Err(refusal) => show_refusal(rt, &refusal),
-    }
+    let outcome = outcome_of(rt.alloc(), checked, row, None)?;
+    show_outcome(rt, checked, row, &outcome)
 }
 
 // The checked program of a file, or why there is none.
 fn program_of(rt: &HostRuntime, name: &str) -> io::Result<Result<Checked, Refusal>> {
-    let source = fs::read(rt, name)?;
-    Ok(checked(rt.alloc(), &source))
+    let source = fs::read_to_string(rt, name)?;
+    Ok(checked(rt.alloc(), source.as_bytes()))
 }
 
 /// Prints the lines of the board's transcript, or the rule that its links break, and what the parts drive at the end.
