@@ -1,8 +1,8 @@
 //! The size of a circuit at the end of its run, counted from the masks.
 
-ghost use Rattle.std.specs.Prelude.{◌<◌, ◌^◌, IfSome, length};
+ghost use Rattle.std.specs.Prelude.{◌<◌, ◌^◌, IsTrue, length};
 
-use mask_net::{network_of, size_line};
+use mask_net::{network_of, size_text};
 use mp_base::{List, Trit, push_number};
 use outside_doubles::MemSink;
 use sim_run::Simulation;
@@ -27,45 +27,43 @@ fn push_counts(line: &mut Vec<u8>, values: &[Trit]) -> Result<(), AllocError> {
     push_number(line, count(values, Trit::X))
 }
 
-// A stimulus with pads of its own, if it is small.
-fn small_stimulus(alloc: Global, text: &[u8]) -> Option<Stimulus>
-    ensures inputs { IfSome result (λ given. length given.pads.inputs < 2 ^ 32) }
-    ensures clocks { IfSome result (λ given. length given.clocks < 2 ^ 32) }
+// Whether a stimulus has few inputs and few clocks.
+fn is_small(given: &Stimulus) -> bool
+    ensures inputs { IsTrue result → length given.now.pads.inputs < 2 ^ 32 }
+    ensures clocks { IsTrue result → length given.now.clocks < 2 ^ 32 }
 {
+    given.pads.inputs.len() < 99 && given.clocks.len() < 9999
+}
+
+// A stimulus with pads of its own, if its text is short.
+fn stimulus_of(alloc: Global, text: &[u8]) -> Option<Stimulus> {
     if text.len() > 9999 {
         return None;
     }
-    let given = read_stimulus(alloc, text, None).ok()?;
-    if given.pads.inputs.len() < 99 && given.clocks.len() < 9999 {
-        Some(given)
-    } else {
-        None
-    }
+    read_stimulus(alloc, text, None).ok()
 }
 
 fn drawn(alloc: Global, masks: &[u8]) -> Option<Network> {
     network_of(alloc, Vec::from_slice(alloc, masks).ok()?).ok()
 }
 
-// The circuit at the end of a stimulus.
-fn run_circuit<'a>(alloc: Global, network: Network, given: &'a Stimulus) -> Option<Simulation<'a>>
-    requires inputs { length given.now.pads.inputs < 2 ^ 32 }
-    requires clocks { length given.now.clocks < 2 ^ 32 }
-{
-    let mut simulation = Simulation::open(alloc, network, given).ok()?;
+// Runs a circuit to the end of its stimulus.
+fn run_to_end(alloc: Global, simulation: &mut Simulation<'_>) -> Option<()> {
     let mut out = MemSink::new(alloc, List::new(alloc));
-    simulation.run(&mut out).ok()?;
-    Some(simulation)
+    simulation.run(&mut out).ok()
 }
 
-// The size of a network, without its line feed.
-fn size_of(alloc: Global, network: &Network) -> Option<Vec<u8>> {
-    let mut line = size_line(alloc, network).ok()?;
-    line.pop();
-    Some(line)
+// Runs a circuit to the end of its stimulus, and adds the counts of its nodes that are at 1 and at X then.
+fn push_counts_of(
+    alloc: Global,
+    line: &mut Vec<u8>,
+    simulation: &mut Simulation<'_>,
+) -> Option<()> {
+    run_to_end(alloc, simulation)?;
+    push_counts(line, simulation.values()).ok()
 }
 
-// Adds the counts of a circuit's nodes at 1 and at X when the stimulus is over.
+// The same of a network, all of whose nodes are X at first.
 fn push_counts_at_end(
     alloc: Global,
     line: &mut Vec<u8>,
@@ -75,40 +73,40 @@ fn push_counts_at_end(
     requires inputs { length given.now.pads.inputs < 2 ^ 32 }
     requires clocks { length given.now.clocks < 2 ^ 32 }
 {
-    let simulation = run_circuit(alloc, network, given)?;
-    push_counts(line, simulation.values()).ok()
+    let mut simulation = Simulation::open(alloc, network, given).ok()?;
+    let pushed = push_counts_of(alloc, line, &mut simulation);
+    drop(simulation);
+    pushed
 }
 
-// The size of a circuit, with these counts.
+// The size of a network, with these counts.
 fn size_behind(alloc: Global, network: Network, given: &Stimulus) -> Option<Vec<u8>>
     requires inputs { length given.now.pads.inputs < 2 ^ 32 }
     requires clocks { length given.now.clocks < 2 ^ 32 }
 {
-    let mut line = size_of(alloc, &network)?;
+    let mut line = size_text(alloc, &network).ok()?;
     push_counts_at_end(alloc, &mut line, network, given)?;
     Some(line)
 }
 
-// The same of the circuit of masks.
-fn size_at_end(alloc: Global, masks: &[u8], stimulus: &[u8]) -> Option<Vec<u8>> {
-    let given = small_stimulus(alloc, stimulus)?;
-    let network = drawn(alloc, masks)?;
-    size_behind(alloc, network, &given)
+// The same of the network of masks, if the stimulus is small.
+fn size_along(alloc: Global, masks: &[u8], given: &Stimulus) -> Option<Vec<u8>> {
+    if is_small(given) {
+        size_behind(alloc, drawn(alloc, masks)?, given)
+    } else {
+        None
+    }
 }
 
-// Whether a line is such a size, of any circuit.
+// The same of the text of a stimulus.
+fn size_at_end(alloc: Global, masks: &[u8], stimulus: &[u8]) -> Option<Vec<u8>> {
+    let given = stimulus_of(alloc, stimulus)?;
+    size_along(alloc, masks, &given)
+}
+
+// Whether a line may be such a size, of any circuit.
 fn tells_size(line: &str) -> bool {
-    let mut words = line.split_whitespace();
-    match words.next() {
-        Some(first) if first == "nodes" => {}
-        _ => return false,
-    }
-    for word in words {
-        if word == "ones" {
-            return true;
-        }
-    }
-    false
+    line.starts_with("nodes ") && line.contains(" ones ")
 }
 
 /// Whether a line is the size of masks at the end of a stimulus.
