@@ -79,6 +79,30 @@ fn end_at<R: Runner>(
     Ok(end_of(files, &outcome, whole))
 }
 
+// Each call of the files or of the output fails in turn, beside how the run ends where none fails.
+fn push_ends_beside<R: Runner>(
+    alloc: Global,
+    told: &mut String,
+    runner: &R,
+    files: &[File],
+    words: &str,
+    side: Side,
+    whole: &Outcome,
+) -> Result<(), NoMemory> {
+    let mut last = None;
+    for call in 0..100_000 {
+        let end = end_at(alloc, runner, files, words, side.failing(call), whole)?;
+        if last != Some(end) {
+            push_end(told, end)?;
+            last = Some(end);
+        }
+        if end.status == Status::Done {
+            return Ok(());
+        }
+    }
+    Ok(())
+}
+
 /// Each call of the files or of the output fails in turn. Runs in a row that end alike are told once.
 pub(crate) fn push_ends<R: Runner>(
     alloc: Global,
@@ -89,18 +113,19 @@ pub(crate) fn push_ends<R: Runner>(
     side: Side,
 ) -> Result<(), NoMemory> {
     let whole = answer(alloc, runner, files, words, NONE)?;
-    let mut last = None;
-    for call in 0..100_000 {
-        let end = end_at(alloc, runner, files, words, side.failing(call), &whole)?;
-        if last != Some(end) {
-            push_end(told, end)?;
-            last = Some(end);
-        }
-        if end.status == Status::Done {
-            return Ok(());
-        }
-    }
-    Ok(())
+    push_ends_beside(alloc, told, runner, files, words, side, &whole)
+}
+
+// Tells an end, and how many bytes the file `c` has then.
+fn push_end_in_bytes(
+    told: &mut String,
+    files: &[File],
+    outcome: &Outcome,
+    whole: &Outcome,
+) -> Result<(), NoMemory> {
+    push_end(told, end_of(files, outcome, whole))?;
+    let length = outcome.text().unwrap_or(b"").len();
+    Ok(writeln!(told, "    {length} bytes")?)
 }
 
 /// An append takes one byte, and one call of the files fails: how many bytes the file `c` has then.
@@ -119,7 +144,5 @@ pub(crate) fn push_bytewise<R: Runner>(
     };
     let whole = answer(alloc, runner, files, words, NONE)?;
     let outcome = answer(alloc, runner, files, words, failing)?;
-    push_end(told, end_of(files, &outcome, &whole))?;
-    let length = outcome.text().map_or(0, |text| text.len());
-    Ok(writeln!(told, "    {length} bytes")?)
+    push_end_in_bytes(told, files, &outcome, &whole)
 }

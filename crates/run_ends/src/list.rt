@@ -1,11 +1,11 @@
 //! Lists of files and runs.
 
 use crate::ends::{push_bytewise, push_ends};
-use crate::one_run::{answer, endless_answer, quiet_answer};
+use crate::one_run::{Outcome, answer, endless_answer, quiet_answer};
 use crate::runner::Runner;
 use mp_base::NoMemory;
 use outcome::Status;
-use run_script::{File, NONE, Side, Step, set, step_of, text_of};
+use run_script::{Failing, File, NONE, Side, Step, set, step_of, text_of};
 use std::alloc::{AllocError, Global};
 use symbol_calls::push_symbols;
 
@@ -24,6 +24,20 @@ fn push_call(told: &mut String, side: Side, call: u64) -> Result<(), AllocError>
     }
 }
 
+// Runs words over the files, where calls fail.
+fn push_answer<R: Runner>(
+    alloc: Global,
+    told: &mut String,
+    runner: &R,
+    files: &[File],
+    words: &str,
+    failing: Failing,
+) -> Result<Status, NoMemory> {
+    let found = answer(alloc, runner, files, words, failing)?;
+    found.push(alloc, told, files)?;
+    Ok(found.status)
+}
+
 // Each call of the files or of the output fails in turn.
 fn push_fails<R: Runner>(
     alloc: Global,
@@ -35,9 +49,8 @@ fn push_fails<R: Runner>(
 ) -> Result<(), NoMemory> {
     for call in 0..20 {
         push_call(told, side, call)?;
-        let found = answer(alloc, runner, files, words, side.failing(call))?;
-        found.push(alloc, told, files)?;
-        if is_last(side, found.status) {
+        let status = push_answer(alloc, told, runner, files, words, side.failing(call))?;
+        if is_last(side, status) {
             return Ok(());
         }
     }
@@ -51,7 +64,22 @@ fn only_file(alloc: Global, text: &[u8]) -> Result<Vec<File>, AllocError> {
     Ok(files)
 }
 
-// A front of masks, where `net` doesn't refuse it by C1.
+// Tells what `net` does of a front of masks, where it doesn't refuse it by C1.
+fn push_unless_cut(
+    alloc: Global,
+    told: &mut String,
+    files: &[File],
+    size: usize,
+    found: &Outcome,
+) -> Result<(), NoMemory> {
+    if found.is_refused_by("error C1 at ") {
+        return Ok(());
+    }
+    writeln!(told, "    {size} bytes")?;
+    found.push(alloc, told, files)
+}
+
+// A front of masks.
 fn push_front<R: Runner>(
     alloc: Global,
     told: &mut String,
@@ -60,11 +88,7 @@ fn push_front<R: Runner>(
 ) -> Result<(), NoMemory> {
     let files = only_file(alloc, front)?;
     let found = answer(alloc, runner, &files, "net f", NONE)?;
-    if found.is_refused_by("error C1 at ") {
-        return Ok(());
-    }
-    writeln!(told, "    {} bytes", front.len())?;
-    Ok(found.push(alloc, told, &files)?)
+    push_unless_cut(alloc, told, &files, front.len(), &found)
 }
 
 // The fronts of a text of masks that `net` refuses by another rule than C1.
@@ -95,6 +119,19 @@ fn keep(
     told.push_str("    c is new\n")
 }
 
+// Keeps what a run has written, and tells of the run.
+fn push_kept(
+    alloc: Global,
+    told: &mut String,
+    files: &mut Vec<File>,
+    found: &Outcome,
+) -> Result<(), NoMemory> {
+    if let Some(written) = found.text() {
+        keep(alloc, told, files, written)?;
+    }
+    found.push(alloc, told, files)
+}
+
 // Runs words over the files.
 fn push_run<R: Runner>(
     alloc: Global,
@@ -104,10 +141,7 @@ fn push_run<R: Runner>(
     words: &str,
 ) -> Result<(), NoMemory> {
     let found = answer(alloc, runner, files, words, NONE)?;
-    if let Some(written) = found.text() {
-        keep(alloc, told, files, written)?;
-    }
-    Ok(found.push(alloc, told, files)?)
+    push_kept(alloc, told, files, &found)
 }
 
 // The symbols of the masks in a file.
@@ -136,12 +170,8 @@ fn push_step<R: Runner>(
         Step::EachFails(side, words) => push_fails(alloc, told, runner, files, words, side),
         Step::EachEnds(side, words) => push_ends(alloc, told, runner, files, words, side),
         Step::Bytewise(call, words) => push_bytewise(alloc, told, runner, files, words, call),
-        Step::Quiet(words) => {
-            Ok(quiet_answer(alloc, runner, files, words)?.push(alloc, told, files)?)
-        }
-        Step::Endless(words) => {
-            Ok(endless_answer(alloc, runner, words)?.push(alloc, told, files)?)
-        }
+        Step::Quiet(words) => quiet_answer(alloc, runner, files, words)?.push(alloc, told, files),
+        Step::Endless(words) => endless_answer(alloc, runner, words)?.push(alloc, told, files),
         Step::Symbols(name) => push_masks(alloc, told, files, name),
         Step::Run(words) => push_run(alloc, told, runner, files, words),
     }

@@ -16,7 +16,49 @@ pub struct Outcome {
     pub written: Option<Vec<u8>>,
 }
 
+// What a run has printed.
+fn printed_in(out: &Output) -> &[u8] {
+    out.told().unwrap_or(b"untold")
+}
+
+// A text that is there.
+fn copy_of(alloc: Global, text: Option<&[u8]>) -> Result<Option<Vec<u8>>, AllocError> {
+    match text {
+        Some(text) => Ok(Some(Vec::from_slice(alloc, text)?)),
+        None => Ok(None),
+    }
+}
+
+// What a run that ended so has left.
+fn left_by(
+    alloc: Global,
+    status: Status,
+    store: &Store,
+    out: &Output,
+) -> Result<Outcome, NoMemory> {
+    let printed = Vec::from_slice(alloc, printed_in(out))?;
+    let written = copy_of(alloc, store.get("c"))?;
+    Ok(Outcome {
+        status,
+        printed,
+        written,
+    })
+}
+
 // How a run over these files and this output ends.
+fn outcome_over<R: Runner>(
+    alloc: Global,
+    runner: &R,
+    words: &str,
+    store: &mut Store,
+    out: &mut Output,
+) -> Result<Outcome, NoMemory> {
+    let words = words_of(alloc, words)?;
+    let status = runner.run(alloc, &words, store, out);
+    left_by(alloc, status, store, out)
+}
+
+// The same, where the files and the output are let go then.
 fn outcome_of<R: Runner>(
     alloc: Global,
     runner: &R,
@@ -24,18 +66,10 @@ fn outcome_of<R: Runner>(
     mut store: Store,
     mut out: Output,
 ) -> Result<Outcome, NoMemory> {
-    let words = words_of(alloc, words)?;
-    let status = runner.run(alloc, &words, &mut store, &mut out);
-    let written = match store.get("c") {
-        Some(text) => Some(Vec::from_slice(alloc, text)?),
-        None => None,
-    };
-    let printed = Vec::from_slice(alloc, out.told().unwrap_or(b"untold"))?;
-    Ok(Outcome {
-        status,
-        printed,
-        written,
-    })
+    let outcome = outcome_over(alloc, runner, words, &mut store, &mut out);
+    drop(store);
+    drop(out);
+    outcome
 }
 
 /// A run over these files, where calls fail.
@@ -46,8 +80,8 @@ pub fn answer<R: Runner>(
     words: &str,
     failing: Failing,
 ) -> Result<Outcome, NoMemory> {
-    let store = Store::Failing(failing.depot(alloc, files)?);
     let out = Output::Failing(failing.sink(alloc)?);
+    let store = Store::Failing(failing.depot(alloc, files)?);
     outcome_of(alloc, runner, words, store, out)
 }
 
@@ -61,8 +95,8 @@ pub(crate) fn quiet_answer<R: Runner>(
     files: &[File],
     words: &str,
 ) -> Result<Outcome, NoMemory> {
-    let store = Store::Quiet(quiet_depot_of(alloc, files, ROOM)?);
     let out = Output::Quiet(QuietSink::new(alloc, ROOM)?);
+    let store = Store::Quiet(quiet_depot_of(alloc, files, ROOM)?);
     outcome_of(alloc, runner, words, store, out)
 }
 
@@ -106,30 +140,21 @@ impl Outcome {
         self.status == Status::Refused && self.printed.starts_with(rule.as_bytes())
     }
 
-    /// Tells the status and what was printed. In place of the size of the masks in the file `c`, alone or at the end of
-    /// the stimulus in the file `t`, it says so, since the layout is free.
+    /// Tells the status and what was printed.
     pub(crate) fn push(
         &self,
         alloc: Global,
         told: &mut String,
         files: &[File],
-    ) -> Result<(), AllocError> {
+    ) -> Result<(), NoMemory> {
         writeln!(told, "    {:?}", self.status)?;
         let printed = String::from_utf8_lossy(alloc, &self.printed)?;
-        if let Some((weight, size)) = printed.split_once('\n') {
-            if tells_chip(alloc, files, size) {
-                let bands = size.lines().count().wrapping_sub(2);
-                return writeln!(told, "    {weight}\n    the size of c in {bands} bands");
-            }
-        }
-        for line in printed.lines() {
-            push_printed(alloc, told, files, line)?;
-        }
-        Ok(())
+        push_printed(alloc, told, files, &printed)
     }
 }
 
-fn push_printed(
+// Tells a line, or that it is the size of the masks in the file `c` at the end of the stimulus in the file `t`.
+fn push_printed_line(
     alloc: Global,
     told: &mut String,
     files: &[File],
@@ -140,4 +165,24 @@ fn push_printed(
     } else {
         writeln!(told, "    {line}")
     }
+}
+
+// Tells what was printed. In place of the size of the masks in the file `c`, alone or at the end of the stimulus in the
+// file `t`, it says so, since the layout is free.
+fn push_printed(
+    alloc: Global,
+    told: &mut String,
+    files: &[File],
+    printed: &str,
+) -> Result<(), NoMemory> {
+    if let Some((weight, size)) = printed.split_once('\n') {
+        if tells_chip(alloc, files, size) {
+            let bands = size.lines().count().wrapping_sub(2);
+            return Ok(writeln!(told, "    {weight}\n    the size of c in {bands} bands")?);
+        }
+    }
+    for line in printed.lines() {
+        push_printed_line(alloc, told, files, line)?;
+    }
+    Ok(())
 }
