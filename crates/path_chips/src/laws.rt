@@ -20,9 +20,9 @@ pub fn paths_are_planned()
     circuits_have_pads();
 }
 
-/// In a network that is extracted from what a path's switches draw, each pull-up joins power to the node of its own gate
-/// and has one transistor between it and ground, nothing else ends at power, each transistor ends at ground or has a
-/// phase as its gate, and no channel has implant in a part of it.
+/// In a network that is extracted from what a path's switches draw, each pull-up joins power to the node of its own
+/// gate and has one transistor between it and ground, nothing else ends at power, each transistor ends at ground or has
+/// a phase as its gate, and no channel has implant in a part of it.
 pub fn paths_are_ratioed()
     ensures { PathsAreRatioed }
 {

@@ -17,8 +17,8 @@ use Rattle.path_plan.specs.declared.planning.Planned.{Planned}
 use Rattle.plan_stats.specs.Text.{stats_lines}
 
 -- The plan is of a chip of the program: it can be written as commands, and those that draw it have a text that is one.
--- The chip draws its fabric and nothing else, and the plan's numbers are the fabric's, which has at most so many columns,
--- a group of tracks for the control and the same one for each bit, and no segment that is longer than its marks.
+-- The chip draws its fabric and nothing else, and the plan's numbers are the fabric's, which has at most so many
+-- columns, a group of tracks for the control and the same one for each bit, and no segment longer than its marks.
 pub record IsPlanOf (p : Program) (planned : Planned) : Type 0 where
   pub emittable : IsEmittable (chip_rects planned.chip) (planned.chip).labels
   pub makes : (commands : List Command) → IsEmitted (chip_rects planned.chip) (planned.chip).labels commands

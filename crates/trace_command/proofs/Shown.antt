@@ -19,7 +19,8 @@ use Rattle.trace_command.specs.Work.{work}
 
 -- a transcript may be shown, whatever the files are
 pub may_show : (program : Program) (given : Stimulus) (text : List ℕ) → Traces program given [] text
-    → (held : Option Files) → IfSome held (λ files. IsNoFault None) × IfSome held (λ files. Traces program given [] text)
+    → (held : Option Files)
+    → IfSome held (λ files. IsNoFault None) × IfSome held (λ files. Traces program given [] text)
 may_show program given text traces None = (tt, tt)
 may_show program given text traces (Some files) = (tt, traces)
 

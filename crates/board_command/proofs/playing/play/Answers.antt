@@ -32,7 +32,8 @@ returns-in_err-run-in-Ok-clause-content g c =
     } in f) c.args.parts.now.items in
     let clocks : ℕ = c.args.clocks in
     let circuit = c.args.circuit in
-    printed_in_part c.args.cif.now c.args.chip.now circuit.network circuit.wired clocks faces c.in_err-run-in-Ok.field-0.0 _
+    printed_in_part c.args.cif.now c.args.chip.now circuit.network circuit.wired clocks faces
+    c.in_err-run-in-Ok.field-0.0 _
     c.from_residual.result _ _ c.from_residual.ensures.1 c.in-Ok.ensures.stored
     c.in_err-run-in-Ok.ensures.printed
 
@@ -45,7 +46,8 @@ returns-in_ok-run-in-Ok-clause-content g c =
     } in f) c.args.parts.now.items in
     let clocks : ℕ = c.args.clocks in
     let circuit = c.args.circuit in
-    printed_whole c.args.cif.now c.args.chip.now circuit.network circuit.wired clocks faces c.in_ok-run-in-Ok.field-0 _ tt _ _
+    printed_whole c.args.cif.now c.args.chip.now circuit.network circuit.wired clocks faces c.in_ok-run-in-Ok.field-0
+    _ tt _ _
     c.in-Ok.ensures.stored c.in_ok-run-in-Ok.ensures.printed
 
 pub returns-in-Err-clause-causes : goal.returns-in-Err-clause-causes

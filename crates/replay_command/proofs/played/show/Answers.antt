@@ -22,8 +22,7 @@ returns-in-Err-clause-causes g c =
 
 pub returns-in_err-run-in-Ok-clause-causes : goal.returns-in_err-run-in-Ok-clause-causes
 returns-in_err-run-in-Ok-clause-causes g c =
-    print_failed c.from_residual.result _ _ _ c.from_residual.ensures.1
-    c.in-Ok.ensures.reads c.in-Ok.ensures.cause.ok
+    print_failed c.from_residual.result _ _ _ c.from_residual.ensures.1 c.in-Ok.ensures.reads c.in-Ok.ensures.cause.ok
     c.in_err-run-in-Ok.ensures.cause.later c.in_err-run-in-Ok.ensures.cause.failed
 
 pub returns-in_ok-run-in-Ok-clause-causes : goal.returns-in_ok-run-in-Ok-clause-causes
