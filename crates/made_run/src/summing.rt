@@ -1,6 +1,6 @@
 //! A circuit that adds up what it shows.
 
-ghost use Rattle.std.specs.Prelude.{◌≡◌, ◌+◌, ◌%◌, ◌^◌, ◌<◌, false, if◌then◌else◌, length, IfOk};
+ghost use Rattle.std.specs.Prelude.{◌≡◌, ◌+◌, ◌%◌, ◌^◌, ◌<◌, if◌then◌else◌, length, IfOk};
 ghost use Rattle.std.specs.List.{AllZip};
 ghost use Rattle.mp_base.specs.declared.pad.Pad.{Pad as PadValue};
 ghost use Rattle.mp_base.specs.declared.value.Trit.TheVariants.{X};
@@ -10,6 +10,7 @@ ghost use Rattle.switch_net.specs.Breaks.{HasPads};
 ghost use Rattle.stimulus.specs.Bits.{trits_of};
 ghost use Rattle.mp_base.specs.PadBits.{bit_count};
 ghost use Rattle.settled_sum.specs.Sum.{first_number};
+ghost use Rattle.made_run.specs.Summing.{IsFresh};
 
 use clock_run::Circuit;
 use mp_base::{Inputs, NoMemory, Pads, Refusal, Trit, TritOutputs};
@@ -82,10 +83,7 @@ impl<'a> Summing<'a> {
     ) -> Result<Summing<'a>, NoMemory>
         requires has_pads { HasPads network pads.now }
         ensures network { IfOk result (λ s. s.circuit.network ≡ network) }
-        ensures pads { IfOk result (λ s. s.circuit.pads ≡ pads.now) }
-        ensures unknown { IfOk result (λ s. value_at s.circuit.values ≡ (λ node. X)) }
-        ensures begun { IfOk result (λ s. s.begun ≡ false) }
-        ensures sum { IfOk result (λ s. s.sum ≡ 0) }
+        ensures fresh { IfOk result (IsFresh pads.now) }
     {
         let circuit = circuit(alloc, network, pads)?;
         Ok(Summing {

@@ -6,8 +6,10 @@ ghost use Rattle.switch_net.specs.declared.network.Network.{Network as NetworkVa
 ghost use Rattle.switch_net.specs.Breaks.{HasPads};
 ghost use Rattle.mask_net.specs.SizeLine.{last_line, size_text};
 ghost use Rattle.made_run.specs.Summary.{IsSummary, summary_text};
+ghost use Rattle.made_run.specs.Summing.{IsFresh};
 
 use crate::run::run_along;
+use crate::summing::Summing;
 use cif_emit::Text;
 use mask_net::size_text;
 use mp_base::{NoMemory, Trit, push_number};
@@ -47,6 +49,24 @@ fn text_of(
     }
 }
 
+// The text of the run of a circuit that has run no clock along a stimulus, by the size of its network.
+fn text_along(
+    alloc: Global,
+    weight: u32,
+    size: &[u8],
+    summing: &mut Summing<'_>,
+    given: &Stimulus,
+) -> Result<Vec<u8>, NoMemory>
+    requires few_inputs { length given.now.pads.inputs < 2 ^ 32 }
+    requires few_clocks { length given.now.clocks < 2 ^ 32 }
+    requires fresh { IsFresh given.now.pads summing.old }
+    requires size { size.now ≡ size_text summing.old.circuit.network }
+    ensures { IfOk result (λ text. IsSummary weight summing.old.circuit.network given.now text.items) }
+{
+    run_along(alloc, summing, given)?;
+    text_of(alloc, weight, summing.sum(), size, summing.values())
+}
+
 /// Runs the circuit of a network along a stimulus of 65 clocks from unknown values, and tells a weight, how many clocks
 /// these are, the sum of what the first output showed in all clocks but the first, and the size line.
 ///
@@ -65,6 +85,8 @@ pub fn summary(
     ensures { IfOk result (λ text. IsSummary weight network given.now text.items) }
 {
     let size = size_text(alloc, &network)?;
-    let ran = run_along(alloc, network, given)?;
-    text_of(alloc, weight, ran.sum(), &size, ran.values())
+    let mut summing = Summing::open(alloc, network, &given.pads)?;
+    let text = text_along(alloc, weight, &size, &mut summing, given);
+    drop(summing);
+    text
 }

@@ -1,22 +1,20 @@
-use Rattle.std.proofs.Common.{◌∙◌, ◌++◌, ap, ap₂}
+use Rattle.std.proofs.Common.{◌∙◌, sym, ap, subst}
 use Rattle.std.proofs.lemmas.Result.{IfOk-weaker}
-use Rattle.switch_net.specs.Values.{value_at}
 use Rattle.switch_net.specs.declared.network.Network.{Network}
-use Rattle.mask_net.specs.SizeLine.{last_line}
-use Rattle.made_run.specs.Summary.{summary_text}
+use Rattle.mask_net.specs.SizeLine.{size_text}
+use Rattle.made_run.specs.Summary.{IsSummary}
 use Rattle.made_run.proofs.told.summary.Goals as goal
+
+pub text_along-text-requires-clause-fresh : goal.text_along-text-requires-clause-fresh
+text_along-text-requires-clause-fresh c = c.in_ok-summing.ensures.fresh
+
+pub text_along-text-requires-clause-size : goal.text_along-text-requires-clause-size
+text_along-text-requires-clause-size c =
+    c.deref.ensures.value ∙ c.in_ok-size.ensures ∙ ap size_text (sym c.in_ok-summing.ensures.network)
 
 pub returns : goal.returns
 returns c =
-    let net = c.args.network in
-    let ran = c.in_ok-ran.ran in
-    IfOk-weaker c.text_of.result _ _
-    (λ text told. record {
-      end = value_at ran.circuit.values;
-      sum = ran.sum;
-      run = c.in_ok-ran.ensures.run;
-      lines =
-          told net (c.deref.ensures.value ∙ c.in_ok-size.ensures)
-          (c.values.ensures.sized ∙ ap (λ (n : Network). n.nodes) c.in_ok-ran.ensures.network)
-          ∙ ap₂ (λ s v. summary_text c.args.weight s ++ last_line net (value_at v)) c.sum.ensures c.values.ensures.same;
-    }) c.text_of.ensures
+    IfOk-weaker c.text_along-text.result _ _
+    (λ text told.
+    subst (λ (net : Network). IsSummary c.args.weight net c.args.given.now text.items) c.in_ok-summing.ensures.network
+    told) c.text_along-text.ensures
