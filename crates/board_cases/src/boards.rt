@@ -3,7 +3,7 @@
 ghost use Rattle.std.specs.Prelude.{◌≡◌, ◌<◌, ◌^◌, All, IfOk, length};
 ghost use Rattle.board.specs.Boarding.{AreWires};
 
-use crate::joined::{add, told_by};
+use crate::joined::{told_by, with};
 use crate::row::Row;
 use crate::watch::Watch;
 use board::{Board, Link, NamedPart, read_links};
@@ -16,7 +16,7 @@ use std::alloc::{AllocError, Global};
 use std::{fs, io};
 use trace_run::Source;
 
-/// What a board printed, whether a write failed, and what its parts drive afterwards, or why it didn't run.
+/// What a board printed, whether a write failed, and what its parts drive afterwards.
 #[derive(Drop)]
 struct Outcome {
     printed: Vec<u8>,
@@ -103,27 +103,7 @@ fn run(
     }
     let links = links_of(alloc, row.links, parts, pads)?;
     let mut board = Board::open(alloc, pads, links, checked.stores())?;
-    let failed = run_on(alloc, checked, &mut board, parts, row.clocks, out);
-    drop(board);
-    failed
-}
-
-// The rule that words of links break, at a word.
-fn broken_words(alloc: Global, broken: &Broken) -> Result<String, AllocError> {
-    match &broken.spot {
-        Spot::Named(name) => {
-            let word = String::from_utf8_lossy(alloc, name.bytes())?;
-            format!(in alloc; " B{} {word}", broken.rule.number)
-        }
-        _ => String::from_str(alloc, " another rule"),
-    }
-}
-
-fn refusal_words(alloc: Global, refusal: &Refusal) -> Result<String, AllocError> {
-    match refusal {
-        Refusal::Broken(broken) => broken_words(alloc, broken),
-        Refusal::NoMemory => String::from_str(alloc, " not enough memory"),
-    }
+    run_on(alloc, checked, &mut board, parts, row.clocks, out)
 }
 
 // What was printed, and what the parts drive then.
@@ -132,7 +112,7 @@ fn outcome_after(
     printed: &[u8],
     failed: bool,
     parts: &[NamedPart],
-) -> Result<Outcome, AllocError> {
+) -> Result<Outcome, Refusal> {
     let printed = Vec::from_slice(alloc, printed)?;
     let told = told_by(alloc, parts)?;
     Ok(Outcome {
@@ -142,30 +122,6 @@ fn outcome_after(
     })
 }
 
-// Nothing was printed.
-fn refused(alloc: Global, refusal: &Refusal) -> Result<Outcome, AllocError> {
-    let told = refusal_words(alloc, refusal)?;
-    Ok(Outcome {
-        printed: Vec::new(alloc),
-        failed: false,
-        told,
-    })
-}
-
-// Runs the program of a row with these parts.
-fn outcome_on(
-    alloc: Global,
-    checked: &Checked,
-    row: Row<'_>,
-    parts: &mut Vec<NamedPart>,
-    out: &mut MemSink,
-) -> Result<Outcome, AllocError> {
-    match run(alloc, checked, row, parts, out) {
-        Ok(failed) => outcome_after(alloc, out.bytes(), failed, parts),
-        Err(refusal) => refused(alloc, &refusal),
-    }
-}
-
 // Runs the program of a row with these parts, where one write fails.
 fn outcome_with(
     alloc: Global,
@@ -173,11 +129,10 @@ fn outcome_with(
     row: Row<'_>,
     call: Option<u64>,
     parts: &mut Vec<NamedPart>,
-) -> Result<Outcome, AllocError> {
+) -> Result<Outcome, Refusal> {
     let mut out = sink(alloc, call)?;
-    let outcome = outcome_on(alloc, checked, row, parts, &mut out);
-    drop(out);
-    outcome
+    let failed = run(alloc, checked, row, parts, &mut out)?;
+    outcome_after(alloc, out.bytes(), failed, parts)
 }
 
 // Runs the program of a row with a counter, a shifter, an echo, a memory, a part that counts its moves, and a second
@@ -187,35 +142,34 @@ fn outcome_of(
     checked: &Checked,
     row: Row<'_>,
     call: Option<u64>,
-) -> Result<Outcome, AllocError> {
-    let mut parts = Vec::new(alloc);
+) -> Result<Result<Outcome, Refusal>, AllocError> {
+    let parts = Vec::new(alloc);
+    let parts = with(alloc, parts, "counter", Box::new(alloc, Counter::new())?)?;
+    let parts = with(alloc, parts, "shifter", Box::new(alloc, Shifter::new())?)?;
+    let parts = with(alloc, parts, "echo", Box::new(alloc, Echo::new())?)?;
+    let parts = with(alloc, parts, "memory", Box::new(alloc, Memory::new())?)?;
     let watch = Watch { moves: 0, seen: 0 };
-    add(
-        alloc,
-        &mut parts,
-        "counter",
-        Box::new(alloc, Counter::new())?,
-    )?;
-    add(
-        alloc,
-        &mut parts,
-        "shifter",
-        Box::new(alloc, Shifter::new())?,
-    )?;
-    add(alloc, &mut parts, "echo", Box::new(alloc, Echo::new())?)?;
-    add(alloc, &mut parts, "memory", Box::new(alloc, Memory::new())?)?;
-    add(alloc, &mut parts, "watch", Box::new(alloc, watch)?)?;
-    add(alloc, &mut parts, "echo", Box::new(alloc, Counter::new())?)?;
-    outcome_with(alloc, checked, row, call, &mut parts)
+    let parts = with(alloc, parts, "watch", Box::new(alloc, watch)?)?;
+    let mut parts = with(alloc, parts, "echo", Box::new(alloc, Counter::new())?)?;
+    Ok(outcome_with(alloc, checked, row, call, &mut parts))
 }
 
-fn show_told(rt: &HostRuntime, told: &str) -> io::Result<()> {
-    println!(rt; "   {told}")
+fn show_broken(rt: &HostRuntime, broken: &Broken) -> io::Result<()> {
+    let number = broken.rule.number;
+    match &broken.spot {
+        Spot::Named(name) => {
+            let word = String::from_utf8_lossy(rt.alloc(), name.bytes())?;
+            println!(rt; "    B{number} {word}")
+        }
+        _ => println!(rt; "    another rule"),
+    }
 }
 
 fn show_refusal(rt: &HostRuntime, refusal: &Refusal) -> io::Result<()> {
-    let words = refusal_words(rt.alloc(), refusal)?;
-    show_told(rt, words.as_str())
+    match refusal {
+        Refusal::Broken(broken) => show_broken(rt, broken),
+        Refusal::NoMemory => println!(rt; "    not enough memory"),
+    }
 }
 
 fn show_lines(rt: &HostRuntime, text: &[u8]) -> io::Result<()> {
@@ -271,8 +225,13 @@ fn show_call(
     whole: &[u8],
     told: &mut Option<u64>,
 ) -> io::Result<bool> {
-    let outcome = outcome_of(rt.alloc(), checked, row, Some(call))?;
-    show_next(rt, &outcome, whole, told)
+    match outcome_of(rt.alloc(), checked, row, Some(call))? {
+        Ok(outcome) => show_next(rt, &outcome, whole, told),
+        Err(refusal) => {
+            show_refusal(rt, &refusal)?;
+            Ok(false)
+        }
+    }
 }
 
 // Each write fails in turn. Those in one line are told once.
@@ -293,7 +252,7 @@ fn show_outcome(
     outcome: &Outcome,
 ) -> io::Result<()> {
     show_lines(rt, &outcome.printed)?;
-    show_told(rt, outcome.told.as_str())?;
+    println!(rt; "   {}", outcome.told)?;
     if row.fails {
         show_cuts(rt, checked, row, &outcome.printed)?;
     }
@@ -301,14 +260,16 @@ fn show_outcome(
 }
 
 fn show_run(rt: &HostRuntime, checked: &Checked, row: Row<'_>) -> io::Result<()> {
-    let outcome = outcome_of(rt.alloc(), checked, row, None)?;
-    show_outcome(rt, checked, row, &outcome)
+    match outcome_of(rt.alloc(), checked, row, None)? {
+        Ok(outcome) => show_outcome(rt, checked, row, &outcome),
+        Err(refusal) => show_refusal(rt, &refusal),
+    }
 }
 
 // The checked program of a file, or why there is none.
 fn program_of(rt: &HostRuntime, name: &str) -> io::Result<Result<Checked, Refusal>> {
-    let source = fs::read_to_string(rt, name)?;
-    Ok(checked(rt.alloc(), source.as_bytes()))
+    let source = fs::read(rt, name)?;
+    Ok(checked(rt.alloc(), &source))
 }
 
 /// Prints the lines of the board's transcript, or the rule that its links break, and what the parts drive at the end.

@@ -3,16 +3,16 @@
 use board::{NamedPart, Part};
 use std::alloc::{AllocError, Global};
 
-/// Adds a part of a name.
-pub(crate) fn add(
+/// These parts and one more, of a name.
+pub(crate) fn with(
     alloc: Global,
-    parts: &mut Vec<NamedPart>,
+    mut parts: Vec<NamedPart>,
     name: &str,
     part: Box<dyn Part>,
-) -> Result<(), AllocError> {
+) -> Result<Vec<NamedPart>, AllocError> {
     let name = String::from_str(alloc, name)?;
     parts.push(NamedPart { name, part })?;
-    Ok(())
+    Ok(parts)
 }
 
 /// What each part drives, behind its name.

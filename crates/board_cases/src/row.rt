@@ -9,23 +9,17 @@ pub(crate) struct Row<'a> {
     pub fails: bool,
 }
 
-// The first field of a line, which `|` ends, and what stands behind it.
-fn first_field(line: &str) -> (&str, &str) {
-    match line.split_once('|') {
-        Some(fields) => fields,
-        None => (line, ""),
-    }
+// A part of a line, of which `|` ends each but the last.
+fn field(line: &str, index: usize) -> &str {
+    line.split('|').nth(index).unwrap_or("")
 }
 
 /// The row of a line.
 pub(crate) fn row_of(line: &str) -> Row<'_> {
-    let (source, rest) = first_field(line);
-    let (clocks, rest) = first_field(rest);
-    let (links, rest) = first_field(rest);
     Row {
-        source,
-        clocks: clocks.parse::<u32>().unwrap_or(0),
-        links,
-        fails: rest == "fails",
+        source: field(line, 0),
+        clocks: field(line, 1).parse::<u32>().unwrap_or(0),
+        links: field(line, 2),
+        fails: field(line, 3) == "fails",
     }
 }
