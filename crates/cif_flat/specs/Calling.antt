@@ -30,8 +30,7 @@ IsCallAt items at ts =
     (offset : ℕ) × (n : ℤ) × (slice_get items at ≡ Some (record { offset = offset; command = Call n ts }))
 
 -- the placement of a call of a definition with this scale, or the first rule that is broken of those of its turns, of
--- the
--- scale and of the count
+-- the scale and of the count
 abbrev pub IsCalled : Scale → List Turn → Ratio → ℕ → Result Placement Fault → Type 0
 IsCalled s ts ratio count (Ok p) =
     ¬ HasAskew ts × IsScale (scale_of ratio) × ¬ HasUneven s ts × (count < walk_limit) × ¬ HasFar s ts × AreTurns s ts p

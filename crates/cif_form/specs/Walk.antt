@@ -60,10 +60,8 @@ pub record Visits (s : State) (v : Visit) : Type 0 where
 -- ---- the rules
 
 -- F1 a call of a number that no definition has, F2 of one that is being expanded, F3 a direction off the axes, F4 a
--- scale with
--- a 0 or an edge or move that isn't whole in half-units, F5 a round flash, F6 a polygon, F7 too many walked items, F8
--- an edge or a
--- move over 2^40 half-units in size, F9 a shape with no layer set, F10 a layer that nMOS lacks
+-- scale with a 0 or an edge or move that isn't whole in half-units, F5 a round flash, F6 a polygon, F7 too many walked
+-- items, F8 an edge or a move over 2^40 half-units in size, F9 a shape with no layer set, F10 a layer that nMOS lacks
 pub data DrawRule : Type 0 where
   F1 : DrawRule
   F2 : DrawRule

@@ -119,8 +119,7 @@ abbrev pub nets_before : Names → ℕ → ℕ
 nets_before names zero = names.start
 nets_before names (suc t) = slice_index names.ends t
 
--- Where nets stand: those of pads, and of cells that nothing drives, before the first task, and those of a task at
--- its
+-- Where nets stand: those of pads, and of cells that nothing drives, before the first task, and those of a task at its
 -- place in the schedule.
 pub record ArePlaced (r : Rtl) (before after : List Part) (names : Names) : Type 0 where
   pub schedule : IsSchedule r names.tasks
@@ -144,8 +143,7 @@ IsEntered r names id =
     ((k : ℕ) × Stands names.inputs k id)
     ⊎ ((e : ℕ) × (x : RtlExpr) × IsAt r.exprs e x × IsEntry x × Stands names.exprs e id)
 
--- What is read from outside: each input that was added is that of one pad or of one expression where a word enters,
--- and
+-- What is read from outside: each input that was added is that of one pad or of one expression where a word enters, and
 -- only pads feed latches.
 pub record AreInputs (r : Rtl) (before after : List Part) (names : Names) : Type 0 where
   pub pads : (k : ℕ) (pad : NetId) → Stands names.inputs k pad → slice_get after pad.0 ≡ Some parts.Input

@@ -60,8 +60,7 @@ abbrev pub IsDone : Names → ℕ → Task → Type 0
 IsDone names t task = (s : ℕ) × (s < t) × (slice_get names.tasks s ≡ Some task)
 
 -- The first i cells have the words that are inputs or stored, the first t tasks are done, and the first j cells have
--- their
--- next values.
+-- their next values.
 pub record AreCellsMade (r : Rtl) (names : Names) (i t j : ℕ) (m : Making) : Type 0 where
   pub ports : (c k : ℕ) → c < i → IsWordOf r c (kinds.Input k)
       → (id : NetId) × (pad : NetId) × Stands m.cell_words c id × Stands m.pads k pad × InputWord m.slices.net id pad

@@ -61,8 +61,7 @@ pub data IsDrawn (nets : Nets) (node : Point → ℕ) (c : Channel) : Type 0 whe
   lone : (k : ℕ) → ((p : Point) → HasOwnNode nets p → ¬ (node p ≡ k)) → IsPullUp node k c → IsDrawn nets node c
 
 -- The channels draw the nets along a map that gives a node to each net, to ground, to power and to each phase.
--- Different
--- ones have different nodes, but for nets that are joined or set to 0; and there are no other channels.
+-- Different ones have different nodes, but for nets that are joined or set to 0; and there are no other channels.
 pub record Draws (channels : List Channel) (nets : Nets) (node : Point → ℕ) : Type 0 where
   pub apart : (p q : Point) → HasOwnNode nets p → HasOwnNode nets q → node p ≡ node q → p ≡ q
   pub lows : (n : Spot) → nets n ≡ Some Low → node (OfNet n) ≡ node Ground

@@ -45,8 +45,7 @@ pub record Follows (p : Program) (pads : Pads) (network : Network) (inputs : Lis
       → slice_index_or shown k [] ≡ value_bits pads.outputs (slice_index_or outputs k [])
 
 -- The headline: the bytes draw a network with the pads of the program, and along every list of inputs that fit the pads
--- this
--- network follows the program.
+-- this network follows the program.
 pub record IsChipOf (p : Program) (bytes : List ℕ) : Type 0 where
   pub pads : Pads
   pub are_pads : ArePadsOf p pads

@@ -48,8 +48,7 @@ or_zero None = 0
 or_zero (Some n) = n
 
 -- the node of the polysilicon over the first square of the piece with this number; the list says from the first place
--- on
--- what is over the tiles
+-- on what is over the tiles
 abbrev pub gate_of : ℕ → List (Option ℕ) → List Piece → List ℕ → ℕ → ℕ
 gate_of first over pieces nodes root =
     get_or nodes (or_zero (get_or over (first + (get_or pieces root no_piece).tile) None)) 0

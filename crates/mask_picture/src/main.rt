@@ -52,7 +52,6 @@ fn letter(family: Family) -> &'static str {
         Family::N => "N",
         Family::B => "B",
         Family::L => "L",
-        Family::P => "P",
     }
 }
 

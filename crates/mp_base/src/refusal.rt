@@ -20,7 +20,6 @@ pub enum Family {
     N,
     B,
     L,
-    P,
 }
 
 #[derive(Clone, Copy, PartialEq, Eq, Debug)]

@@ -42,8 +42,7 @@ sequences (Cond branches) = map (λ (b : Branch). b.body) branches
 sequences _ = []
 
 -- the form b, which is z, is a transfer that stands in form f behind another that isn't in another branch of one and
--- the same
--- `cond`: a sequence has them in two of its forms
+-- the same `cond`: a sequence has them in two of its forms
 abbrev pub IsLater : Program → ℕ → ℕ → Form → Type 0
 IsLater p f b z = (c : ℕ) × (y x : Form) × (forms : List ℕ) × (i j a g h : ℕ) × Under p f c × IsAt p.forms c y
     × Contains (sequences y.kind) forms

@@ -20,8 +20,7 @@ RiseTo end from [] = from ≡ end
 RiseTo end from (to ∷ marks) = (from.slices ≤ to.slices) × (from.control ≤ to.control) × RiseTo end to marks
 
 -- What joins nets, between marks: a chain up comes from no net behind a mark that its end stands before; the end of a
--- chain down, or of a cast, and the net that it takes its value from have a mark between them; and a lift's net
--- stands
+-- chain down, or of a cast, and the net that it takes its value from have a mark between them; and a lift's net stands
 -- before each mark that its end stands before.
 pub record IsMarked (w : ℕ) (control : List Part) (s : SliceNet) (casts : List Cast) (lifts : List Lift)
     (marks : List Mark) : Type 0 where

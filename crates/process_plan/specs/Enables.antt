@@ -23,8 +23,7 @@ use Rattle.process_plan.specs.Active.{Origin, Always, At, IsRoot}
 -- ---- copies
 
 -- Expression 0 is true, and expression 1 is its negation. Behind them stand the copies of the program's expressions,
--- the
--- last one first, so that arguments stand before what they are arguments of.
+-- the last one first, so that arguments stand before what they are arguments of.
 abbrev pub copy_of : Program → ℕ → ℕ
 copy_of p e = length p.exprs + 1 - e
 

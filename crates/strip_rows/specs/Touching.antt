@@ -5,8 +5,7 @@ use Rattle.union_find.specs.declared.pair.Pair.{Pair}
 use Rattle.strip_rows.specs.Strips.{strip}
 
 -- they have cells with a common edge, and no common cell: their columns adjoin and they have a common row, or their
--- rows
--- adjoin and they have a common column
+-- rows adjoin and they have a common column
 pub data Touch (s t : Strip) : Type 0 where
   beside : (s.right ≡ t.left) ⊎ (t.right ≡ s.left) → s.low < t.high → t.low < s.high → Touch s t
   upon : (s.high ≡ t.low) ⊎ (t.high ≡ s.low) → s.left < t.right → t.left < s.right → Touch s t

@@ -65,8 +65,7 @@ pub record IsTag (covers : Layer → ℤ → ℤ → Type 0) (nodes : List Squar
   pub node : IsOfNode covers nodes tag.node square
 
 -- the network of what is covered, with these labels: nodes and channels are numbered in the order of their least
--- squares,
--- and the tags are in the order of the labels
+-- squares, and the tags are in the order of the labels
 pub record IsNetwork (covers : Layer → ℤ → ℤ → Type 0) (labels : List FlatLabel) (net : Network) : Type 0 where
   pub nodes : List Square
   pub regions : List Square

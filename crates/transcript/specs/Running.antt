@@ -23,8 +23,7 @@ pub record PrintsClock {S T E : Type 0} (Steps : S → List ℕ → List (List T
   pub taken : TakesAll Gains old new (line_text clock (given.pads).outputs shown) result
 
 -- The first clocks were run, from this state to that, and their lines printed: at `Ok` all clocks and all of their
--- text, and
--- else all lines but the last, and a first part of the last, but not all of it.
+-- text, and else all lines but the last, and a first part of the last, but not all of it.
 pub record PrintsClocks {S T E : Type 0} (Steps : S → List ℕ → List (List Trit) → S → Type 0) (given : Stimulus)
     (before after : S) (old new : Option (List ℕ)) (result : Result T E) : Type 0 where
   pub shown : List (List (List Trit))
