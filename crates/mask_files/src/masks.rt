@@ -17,7 +17,7 @@ use switch_net::Network;
 ///
 /// # Errors
 ///
-/// A read fault, the first broken rule of L1, C, F, N1 and N2, or want of memory.
+/// A read fault, the first broken rule of L1, C, F, N1, N2, N3 and N5, or want of memory.
 pub fn read_network<D: Depot>(alloc: Global, depot: &mut D, name: &str) -> Result<Network, Halt>
     ensures held { Keeps (D.held depot.old) (D.held depot.new) }
     ensures drawn { IfOk result (λ net. IfSome (D.held depot.new) (λ files. IsNetOf (bytes_of files name.now) net)) }

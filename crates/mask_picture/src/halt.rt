@@ -13,6 +13,14 @@ pub(crate) enum Halt {
 }
 
 impl Halt {
+    /// Of words that can't be had, or aren't text.
+    pub fn of_words(error: io::Error) -> Halt {
+        match error.kind() {
+            ErrorKind::OutOfMemory => Halt::NoMemory,
+            _ => Halt::Usage,
+        }
+    }
+
     /// Of a file or an input that can't be read.
     pub fn of_read(error: io::Error) -> Halt {
         match error.kind() {

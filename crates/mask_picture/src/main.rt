@@ -29,10 +29,10 @@ fn read_input(rt: &HostRuntime) -> io::Result<Vec<u8>> {
 
 // The bytes of the file that the one word names, or of the input where there is no word.
 fn bytes_of(rt: &HostRuntime) -> Result<Vec<u8>, Halt> {
-    let words = words_of(rt).map_err(Halt::of_read)?;
+    let words = words_of(rt).map_err(Halt::of_words)?;
     match words.as_slice() {
         [] => read_input(rt).map_err(Halt::of_read),
-        [name] => fs::read(rt, name.as_str()).map_err(Halt::of_read),
+        [name] if !name.starts_with('-') => fs::read(rt, name.as_str()).map_err(Halt::of_read),
         _ => Err(Halt::Usage),
     }
 }

@@ -1,3 +1,4 @@
 pub mod Frames
 pub mod Heights
+pub mod Looks
 pub mod Pictures

@@ -10,8 +10,8 @@ use Rattle.lam_geom.specs.declared.rect.Rect.{Rect}
 use Rattle.lam_geom.specs.Squares.{rank}
 use Rattle.cif_form.specs.Place.{layer_name}
 use Rattle.mask_svg.specs.declared.frame.Frame.{Frame}
-use Rattle.mask_svg.specs.declared.style.TheConstants.{KEY, KEY_PLACE, STYLE, VIEW}
 use Rattle.mask_svg.specs.Heights.{name_height}
+use Rattle.mask_svg.specs.Looks.{entries_text, key_front, style_text, view_front}
 use Rattle.mask_svg.specs.Frames.{frame_of, grain, picture_height, picture_width, unit, unit_count}
 
 -- a number behind a few letters
@@ -91,7 +91,7 @@ labels_text f labels =
 
 -- the size of the picture
 unfoldable pub view_text : Frame → List ℕ
-view_text f = tagged VIEW.now (pos (picture_width f)) ++ tagged (codes " ") (pos (picture_height f)) ++ codes "'>\n"
+view_text f = tagged view_front (pos (picture_width f)) ++ tagged (codes " ") (pos (picture_height f)) ++ codes "'>\n"
 
 -- two units from the left and from above
 unfoldable pub margin_text : Frame → List ℕ
@@ -114,7 +114,7 @@ grain_name f = if grain f == 1 then codes " half-units" else codes " lambda"
 
 -- the lower left corner of the drawing, where the key stands
 unfoldable pub key_corner_text : Frame → List ℕ
-key_corner_text f = tagged KEY_PLACE.now f.left ++ tagged (codes " ") (neg_ℤ f.bottom)
+key_corner_text f = tagged key_front f.left ++ tagged (codes " ") (neg_ℤ f.bottom)
 
 -- how large a unit is
 unfoldable pub key_size_text : Frame → List ℕ
@@ -131,11 +131,11 @@ scale_text f =
 
 -- the key of the layers, and a scale of ten units, below the drawing
 unfoldable pub key_text : Frame → List ℕ
-key_text f = key_place_text f ++ KEY.now ++ scale_text f
+key_text f = key_place_text f ++ entries_text ++ scale_text f
 
 -- what stands before the drawing
 unfoldable pub head_text : Frame → List ℕ
-head_text f = view_text f ++ STYLE.now ++ shift_text f
+head_text f = view_text f ++ style_text ++ shift_text f
 
 -- the picture of a drawing with its labels
 abbrev pub picture_text : List Rect → List FlatLabel → List ℕ

@@ -12,7 +12,7 @@ ghost use Rattle.mask_svg.specs.Pictures.{view_text};
 
 use crate::frame::{Frame, frame_of};
 use crate::height::{compared, height_among};
-use crate::style::{KEY, KEY_PLACE, STYLE, VIEW};
+use crate::style::{key_entries, key_front, style, view_front};
 use crate::text::{push_count, push_name, push_negated, push_tagged};
 use lam_geom::{FlatLabel, Layer, Rect};
 use std::alloc::{AllocError, Global};
@@ -193,7 +193,7 @@ fn push_labels(text: &mut Vec<u8>, frame: Frame, labels: &[FlatLabel]) -> Result
 fn push_view(text: &mut Vec<u8>, frame: Frame) -> Result<(), AllocError>
     ensures { OnOk result (text.new.items ≡ text.old.items ++ view_text frame) }
 {
-    push_count(text, VIEW.as_bytes(), frame.picture_width())?;
+    push_count(text, view_front(), frame.picture_width())?;
     push_count(text, b" ", frame.picture_height())?;
     text.extend_from_slice(b"'>\n")
 }
@@ -245,7 +245,7 @@ fn grain_name(frame: Frame) -> &'static [u8]
 fn push_key_corner(text: &mut Vec<u8>, frame: Frame) -> Result<(), AllocError>
     ensures { OnOk result (text.new.items ≡ text.old.items ++ key_corner_text frame) }
 {
-    push_tagged(text, KEY_PLACE.as_bytes(), frame.left)?;
+    push_tagged(text, key_front(), frame.left)?;
     push_negated(text, b" ", frame.bottom)
 }
 
@@ -279,7 +279,7 @@ fn push_key(text: &mut Vec<u8>, frame: Frame) -> Result<(), AllocError>
     ensures { OnOk result (text.new.items ≡ text.old.items ++ key_text frame) }
 {
     push_key_place(text, frame)?;
-    text.extend_from_slice(KEY.as_bytes())?;
+    text.extend_from_slice(key_entries())?;
     push_scale(text, frame)
 }
 
@@ -288,7 +288,7 @@ fn push_head(text: &mut Vec<u8>, frame: Frame) -> Result<(), AllocError>
     ensures { OnOk result (text.new.items ≡ text.old.items ++ head_text frame) }
 {
     push_view(text, frame)?;
-    text.extend_from_slice(STYLE.as_bytes())?;
+    text.extend_from_slice(style())?;
     push_shift(text, frame)
 }
 
