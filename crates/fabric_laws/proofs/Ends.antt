@@ -27,9 +27,9 @@ use Rattle.fabric_laws.proofs.Channels.Near.{to_right_, to_left_, to_top_, to_bo
 use Rattle.fabric_laws.proofs.Tables.{Part, Row, parts, together, is_layer, is_pull_up, right_of, upon}
 use Rattle.fabric_laws.proofs.Tables.{is_upright, is_level, is_upright_passes, is_level_passes}
 
--- the place of a square, on the layer of a rectangle
-abbrev pub under : Rect → Square → Square
-under q t = record { layer = q.layer; x = t.x; y = t.y }
+-- the square at that place on the rectangle's layer
+abbrev pub on_layer : Rect → Square → Square
+on_layer q t = record { layer = q.layer; x = t.x; y = t.y }
 
 -- neighbours of one column lie one upon the other, and those of one row side by side
 in_column : (s t : Square) → s.x ≡ t.x → ShareEdge s t → (t.y ≡ s.y +ℤ pos 1) ⊎ (s.y ≡ t.y +ℤ pos 1)
@@ -43,7 +43,7 @@ in_row s t y (inr (e, inl g)) = absurd (omega (arith, ints))
 in_row s t y (inr (e, inr g)) = absurd (omega (arith, ints))
 
 -- a square beside one of a rectangle, in its column, and none of it: it lies below or above
-pub below_or_above : (q : Rect) (s t : Square) → IsIn q s → s.x ≡ t.x → ShareEdge s t → ¬ IsIn q (under q t)
+pub below_or_above : (q : Rect) (s t : Square) → IsIn q s → s.x ≡ t.x → ShareEdge s t → ¬ IsIn q (on_layer q t)
     → IsBelowOrAbove q t
 below_or_above q s t i x j out =
     let i0 = i.left in let i1 = i.right in let i2 = i.bottom in let i3 = i.top in
@@ -64,7 +64,7 @@ below_or_above q s t i x j out =
     }
 
 -- in its row: it lies at the left or the right
-pub left_or_right : (q : Rect) (s t : Square) → IsIn q s → s.y ≡ t.y → ShareEdge s t → ¬ IsIn q (under q t)
+pub left_or_right : (q : Rect) (s t : Square) → IsIn q s → s.y ≡ t.y → ShareEdge s t → ¬ IsIn q (on_layer q t)
     → IsLeftOrRight q t
 left_or_right q s t i y j out =
     let i0 = i.left in let i1 = i.right in let i2 = i.bottom in let i3 = i.top in

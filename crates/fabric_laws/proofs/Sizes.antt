@@ -22,7 +22,7 @@ use Rattle.fabric_laws.proofs.Tables.Kind.{of_power, of_line}
 use Rattle.fabric_laws.proofs.Channels.{OfMark, mark_of, of_mark, chain_mark, channel_whole, channel_rect, in_channel}
 use Rattle.fabric_laws.proofs.Channels.{in_mark}
 use Rattle.fabric_laws.proofs.Channels.{one_cell, bare, implanted, IsSwitchTile, has_channel}
-use Rattle.fabric_laws.proofs.Ends.{under, below_or_above, left_or_right, upright, level, is_end}
+use Rattle.fabric_laws.proofs.Ends.{on_layer, below_or_above, left_or_right, upright, level, is_end}
 
 module _ (joined : RectanglesAreJoined) (f : Plan) (w : IsFabric f) where
   -- the channel of a square is that of its mark
@@ -41,14 +41,13 @@ module _ (joined : RectanglesAreJoined) (f : Plan) (w : IsFabric f) where
         record { is = of_mark f w m s p; chain = channel_whole f w joined m r s o p }),
   )
 
-  -- the channel of the tile, so many lambda wide and so many high, from its corner k
+  -- a channel of the mark, from the lower left corner of a cell of its tile
   abbrev at_mark : Mark → Cell → ℕ → ℕ → Rect
   at_mark m k wide high = outline (pos (10000 * m.column + 500 * k.x0))
       (pos (500 * base f m.band + 6000 * m.row + 500 * k.y0)) wide high
 
   squares : (m : Mark) (r : Square) (o : OfMark f m r) (k : Cell) (wide high : ℕ) → k ≡ o.cell → k.x1 ≡ k.x0 + wide
-      → k.y1 ≡ k.y0 + high → (s : Square)
-      → IsOfChannel (covered (shape f)) r s ↔ IsIn (at_mark m k wide high) s
+      → k.y1 ≡ k.y0 + high → (s : Square) → IsOfChannel (covered (shape f)) r s ↔ IsIn (at_mark m k wide high) s
   squares m r o k wide high e a b s = (
     λ h. (
         let i = subst (λ z. IsIn (channel_rect f w m z) s) (sym e) ((whole m r s o).0 h) in
@@ -60,171 +59,165 @@ module _ (joined : RectanglesAreJoined) (f : Plan) (w : IsFabric f) where
   )
 
   -- diffusion that conducts isn't of a channel
-  outside : (r t : Square) (q : Rect) → q.layer ≡ NP → (IsIn q (under q t) → IsOfChannel (covered (shape f)) r (under q t))
-      → t.layer ≡ ND → Conducts (covered (shape f)) t → ¬ IsIn q (under q t)
-  outside r t q e of d h i = (subst (λ l. ConductsOn (covered (shape f)) l t.x t.y) d h).1 (of i).is.1
+  outside : (r t : Square) (q : Rect) → (IsIn q (on_layer q t) → IsOfChannel (covered (shape f)) r (on_layer q t))
+      → t.layer ≡ ND → Conducts (covered (shape f)) t → ¬ IsIn q (on_layer q t)
+  outside r t q of d h i = (subst (λ l. ConductsOn (covered (shape f)) l t.x t.y) d h).1 (of i).is.1
 
-  -- ---- pull-ups
-  abbrev upright_cell : Cell
-  upright_cell = cell NP 3 8 5 24
+  module _ (m : Mark) (r : Square) (o : OfMark f m r) (e : m.tile ≡ PullUp) where
+    abbrev upright_rect : Rect
+    upright_rect = at_mark m (cell NP 3 8 5 24) 2 16
 
-  is_upright_cell : (m : Mark) (r : Square) (o : OfMark f m r) → m.tile ≡ PullUp → upright_cell ≡ o.cell
-  is_upright_cell m r o e =
-      elim (subst (λ z. Member (channels (mark z)) o.cell) e o.among) [ inl q ↦ q | inr q ↦ absurd q ]
+    upright_squares : (s : Square) → IsOfChannel (covered (shape f)) r s ↔ IsIn upright_rect s
+    upright_squares =
+        let k : cell NP 3 8 5 24 ≡ o.cell = elim (subst (λ z. Member (channels (mark z)) o.cell) e o.among)
+        [ inl q ↦ q | inr q ↦ absurd q ] in
+        squares m r o (cell NP 3 8 5 24) 2 16 k refl refl
 
-  below_end : (m : Mark) (r t : Square) (o : OfMark f m r) → m.tile ≡ PullUp → t.layer ≡ ND
-      → IsBelowOrAbove (at_mark m upright_cell 2 16) t → t.y +ℤ pos 1 ≡ (at_mark m upright_cell 2 16).y0
-      → IsEnd (covered (shape f)) r t
-  below_end m r t o e d b g =
-      let s : Square = record { layer = NP; x = t.x; y = t.y +ℤ pos 1 } in
-      let b0 = b.left in let b1 = b.right in
-      let of = (squares m r o upright_cell 2 16 (is_upright_cell m r o e) refl refl s).1 (record {
-        same = refl;
-        left = b0;
-        right = b1;
-        bottom = omega (arith, ints);
-        top = omega (arith, ints);
-      }) in
-      let p = of_channel m r s o of in
-      let p0 = p.at.at_x in let p1 = p.at.at_y in
-      is_end f w m r s t p of (inr (refl, inr refl)) d (part (of_line L) ND 3 6 5 8) p.u 3999 (omega arith)
-      (omega (arith, ints)) p0 (omega (arith, ints))
-      (subst (λ z. Member (parts (mark z)) (part (of_line L) ND 3 6 5 8)) (sym e) (inr (inr (inr (inr (inl refl)))))) refl
-      (record {
-        left = omega (arith, ints);
-        right = omega (arith, ints);
-        bottom = omega arith;
-        top = omega arith;
-      })
+    below_end : (t : Square) → t.layer ≡ ND → IsBelowOrAbove upright_rect t → t.y +ℤ pos 1 ≡ upright_rect.y0
+        → IsEnd (covered (shape f)) r t
+    below_end t d b g =
+        let s : Square = record { layer = NP; x = t.x; y = t.y +ℤ pos 1 } in
+        let b0 = b.left in let b1 = b.right in
+        let of = (upright_squares s).1 (record {
+          same = refl;
+          left = b0;
+          right = b1;
+          bottom = omega (arith, ints);
+          top = omega (arith, ints);
+        }) in
+        let p = of_channel m r s o of in let p0 = p.at.at_x in let p1 = p.at.at_y in
+        let foot = part (of_line L) ND 3 6 5 8 in
+        is_end f w m r s t p of (inr (refl, inr refl)) d foot p.u 3999 (omega arith) (omega (arith, ints)) p0
+        (omega (arith, ints))
+        (subst (λ z. Member (parts (mark z)) foot) (sym e) (inr (inr (inr (inr (inl refl)))))) refl
+        (record {
+          left = omega (arith, ints);
+          right = omega (arith, ints);
+          bottom = omega arith;
+          top = omega arith;
+        })
 
-  above_end : (m : Mark) (r t : Square) (o : OfMark f m r) → m.tile ≡ PullUp → t.layer ≡ ND
-      → IsBelowOrAbove (at_mark m upright_cell 2 16) t → t.y ≡ (at_mark m upright_cell 2 16).y1
-      → IsEnd (covered (shape f)) r t
-  above_end m r t o e d b g =
-      let s : Square = record { layer = NP; x = t.x; y = pos (500 * base f m.band + 6000 * m.row + 11999) } in
-      let b0 = b.left in let b1 = b.right in
-      let of = (squares m r o upright_cell 2 16 (is_upright_cell m r o e) refl refl s).1 (record {
-        same = refl;
-        left = b0;
-        right = b1;
-        bottom = omega (arith, ints);
-        top = omega (arith, ints);
-      }) in
-      let p = of_channel m r s o of in
-      let p0 = p.at.at_x in let p1 = p.at.at_y in
-      is_end f w m r s t p of (inr (refl, inl (omega (arith, ints)))) d (part of_power ND 3 24 5 27) p.u 12000 (omega arith)
-      (omega (arith, ints)) p0 (omega (arith, ints))
-      (subst (λ z. Member (parts (mark z)) (part of_power ND 3 24 5 27)) (sym e) (inr (inr (inr (inr (inr (inl refl))))))) refl
-      (record {
-        left = omega (arith, ints);
-        right = omega (arith, ints);
-        bottom = omega arith;
-        top = omega arith;
-      })
+    above_end : (t : Square) → t.layer ≡ ND → IsBelowOrAbove upright_rect t → t.y ≡ upright_rect.y1
+        → IsEnd (covered (shape f)) r t
+    above_end t d b g =
+        let s : Square = record { layer = NP; x = t.x; y = pos (500 * base f m.band + 6000 * m.row + 11999) } in
+        let b0 = b.left in let b1 = b.right in
+        let of = (upright_squares s).1 (record {
+          same = refl;
+          left = b0;
+          right = b1;
+          bottom = omega (arith, ints);
+          top = omega (arith, ints);
+        }) in
+        let p = of_channel m r s o of in let p0 = p.at.at_x in let p1 = p.at.at_y in
+        let head = part of_power ND 3 24 5 27 in
+        is_end f w m r s t p of (inr (refl, inl (omega (arith, ints)))) d head p.u 12000 (omega arith)
+        (omega (arith, ints)) p0 (omega (arith, ints))
+        (subst (λ z. Member (parts (mark z)) head) (sym e) (inr (inr (inr (inr (inr (inl refl))))))) refl
+        (record {
+          left = omega (arith, ints);
+          right = omega (arith, ints);
+          bottom = omega arith;
+          top = omega arith;
+        })
 
-  upright_ends : (m : Mark) (r : Square) (o : OfMark f m r) → m.tile ≡ PullUp → (t : Square)
-      → IsEnd (covered (shape f)) r t ↔ (t.layer ≡ ND) × IsBelowOrAbove (at_mark m upright_cell 2 16) t
-  upright_ends m r o e t = (
-    λ h. (
-        let q = at_mark m upright_cell 2 16 in
-        let is = squares m r o upright_cell 2 16 (is_upright_cell m r o e) refl refl in
-        let p = of_channel m r h.square o h.of in (
-          h.diffusion,
-          below_or_above q h.square t ((is h.square).0 h.of)
-              (upright f w m h.square t p e h.diffusion h.beside h.conducts) h.beside
-              (outside r t q refl (is (under q t)).1 h.diffusion h.conducts),
-        )),
-    λ (d, b). elim b.beside [ inl g ↦ below_end m r t o e d b g | inr g ↦ above_end m r t o e d b g ],
-  )
+    upright_ends : (t : Square) → IsEnd (covered (shape f)) r t ↔ (t.layer ≡ ND) × IsBelowOrAbove upright_rect t
+    upright_ends t = (
+      λ h. (
+          let p = of_channel m r h.square o h.of in (
+            h.diffusion,
+            below_or_above upright_rect h.square t ((upright_squares h.square).0 h.of)
+                (upright f w m h.square t p e h.diffusion h.beside h.conducts) h.beside
+                (outside r t upright_rect (upright_squares (on_layer upright_rect t)).1 h.diffusion h.conducts),
+          )),
+      λ (d, b). elim b.beside [ inl g ↦ below_end t d b g | inr g ↦ above_end t d b g ],
+    )
 
-  -- ---- transistors
-  abbrev level_cell : Cell
-  level_cell = cell NP 9 2 11 4
+  module _ (m : Mark) (r : Square) (o : OfMark f m r) (e : m.tile ≡ Tran) where
+    abbrev level_rect : Rect
+    level_rect = at_mark m (cell NP 9 2 11 4) 2 2
 
-  is_level_cell : (m : Mark) (r : Square) (o : OfMark f m r) → m.tile ≡ Tran → level_cell ≡ o.cell
-  is_level_cell m r o e =
-      elim (subst (λ z. Member (channels (mark z)) o.cell) e o.among) [ inl q ↦ q | inr q ↦ absurd q ]
+    level_squares : (s : Square) → IsOfChannel (covered (shape f)) r s ↔ IsIn level_rect s
+    level_squares =
+        let k : cell NP 9 2 11 4 ≡ o.cell = elim (subst (λ z. Member (channels (mark z)) o.cell) e o.among)
+        [ inl q ↦ q | inr q ↦ absurd q ] in
+        squares m r o (cell NP 9 2 11 4) 2 2 k refl refl
 
-  left_end : (m : Mark) (r t : Square) (o : OfMark f m r) → m.tile ≡ Tran → t.layer ≡ ND
-      → IsLeftOrRight (at_mark m level_cell 2 2) t → t.x +ℤ pos 1 ≡ (at_mark m level_cell 2 2).x0
-      → IsEnd (covered (shape f)) r t
-  left_end m r t o e d b g =
-      let s : Square = record { layer = NP; x = t.x +ℤ pos 1; y = t.y } in
-      let b0 = b.bottom in let b1 = b.top in
-      let of = (squares m r o level_cell 2 2 (is_level_cell m r o e) refl refl s).1 (record {
-        same = refl;
-        left = omega (arith, ints);
-        right = omega (arith, ints);
-        bottom = b0;
-        top = b1;
-      }) in
-      let p = of_channel m r s o of in
-      let p0 = p.at.at_x in let p1 = p.at.at_y in
-      is_end f w m r s t p of (inl (refl, inr refl)) d (part (of_line L) ND 6 2 9 4) 4499 p.v (omega (arith, ints))
-      (omega arith) (omega (arith, ints)) p1
-      (subst (λ z. Member (parts (mark z)) (part (of_line L) ND 6 2 9 4)) (sym e) (inl refl)) refl
-      (record {
-        left = omega arith;
-        right = omega arith;
-        bottom = omega (arith, ints);
-        top = omega (arith, ints);
-      })
+    left_end : (t : Square) → t.layer ≡ ND → IsLeftOrRight level_rect t → t.x +ℤ pos 1 ≡ level_rect.x0
+        → IsEnd (covered (shape f)) r t
+    left_end t d b g =
+        let s : Square = record { layer = NP; x = t.x +ℤ pos 1; y = t.y } in
+        let b0 = b.bottom in let b1 = b.top in
+        let of = (level_squares s).1 (record {
+          same = refl;
+          left = omega (arith, ints);
+          right = omega (arith, ints);
+          bottom = b0;
+          top = b1;
+        }) in
+        let p = of_channel m r s o of in let p0 = p.at.at_x in let p1 = p.at.at_y in
+        let arm = part (of_line L) ND 6 2 9 4 in
+        is_end f w m r s t p of (inl (refl, inr refl)) d arm 4499 p.v (omega (arith, ints)) (omega arith)
+        (omega (arith, ints)) p1
+        (subst (λ z. Member (parts (mark z)) arm) (sym e) (inl refl)) refl
+        (record {
+          left = omega arith;
+          right = omega arith;
+          bottom = omega (arith, ints);
+          top = omega (arith, ints);
+        })
 
-  right_end : (m : Mark) (r t : Square) (o : OfMark f m r) → m.tile ≡ Tran → t.layer ≡ ND
-      → IsLeftOrRight (at_mark m level_cell 2 2) t → t.x ≡ (at_mark m level_cell 2 2).x1
-      → IsEnd (covered (shape f)) r t
-  right_end m r t o e d b g =
-      let s : Square = record { layer = NP; x = pos (10000 * m.column + 5499); y = t.y } in
-      let b0 = b.bottom in let b1 = b.top in
-      let of = (squares m r o level_cell 2 2 (is_level_cell m r o e) refl refl s).1 (record {
-        same = refl;
-        left = omega (arith, ints);
-        right = omega (arith, ints);
-        bottom = b0;
-        top = b1;
-      }) in
-      let p = of_channel m r s o of in
-      let p0 = p.at.at_x in let p1 = p.at.at_y in
-      is_end f w m r s t p of (inl (refl, inl (omega (arith, ints)))) d (part (of_line R) ND 11 2 14 4) 5500 p.v
-      (omega (arith, ints)) (omega arith) (omega (arith, ints)) p1
-      (subst (λ z. Member (parts (mark z)) (part (of_line R) ND 11 2 14 4)) (sym e) (inr (inl refl))) refl
-      (record {
-        left = omega arith;
-        right = omega arith;
-        bottom = omega (arith, ints);
-        top = omega (arith, ints);
-      })
+    right_end : (t : Square) → t.layer ≡ ND → IsLeftOrRight level_rect t → t.x ≡ level_rect.x1
+        → IsEnd (covered (shape f)) r t
+    right_end t d b g =
+        let s : Square = record { layer = NP; x = pos (10000 * m.column + 5499); y = t.y } in
+        let b0 = b.bottom in let b1 = b.top in
+        let of = (level_squares s).1 (record {
+          same = refl;
+          left = omega (arith, ints);
+          right = omega (arith, ints);
+          bottom = b0;
+          top = b1;
+        }) in
+        let p = of_channel m r s o of in let p0 = p.at.at_x in let p1 = p.at.at_y in
+        let arm = part (of_line R) ND 11 2 14 4 in
+        is_end f w m r s t p of (inl (refl, inl (omega (arith, ints)))) d arm 5500 p.v (omega (arith, ints))
+        (omega arith) (omega (arith, ints)) p1
+        (subst (λ z. Member (parts (mark z)) arm) (sym e) (inr (inl refl))) refl
+        (record {
+          left = omega arith;
+          right = omega arith;
+          bottom = omega (arith, ints);
+          top = omega (arith, ints);
+        })
 
-  level_ends : (m : Mark) (r : Square) (o : OfMark f m r) → m.tile ≡ Tran → (t : Square)
-      → IsEnd (covered (shape f)) r t ↔ (t.layer ≡ ND) × IsLeftOrRight (at_mark m level_cell 2 2) t
-  level_ends m r o e t = (
-    λ h. (
-        let q = at_mark m level_cell 2 2 in
-        let is = squares m r o level_cell 2 2 (is_level_cell m r o e) refl refl in
-        let p = of_channel m r h.square o h.of in (
-          h.diffusion,
-          left_or_right q h.square t ((is h.square).0 h.of)
-              (level f w m h.square t p e h.diffusion h.beside h.conducts) h.beside
-              (outside r t q refl (is (under q t)).1 h.diffusion h.conducts),
-        )),
-    λ (d, b). elim b.beside [ inl g ↦ left_end m r t o e d b g | inr g ↦ right_end m r t o e d b g ],
-  )
+    level_ends : (t : Square) → IsEnd (covered (shape f)) r t ↔ (t.layer ≡ ND) × IsLeftOrRight level_rect t
+    level_ends t = (
+      λ h. (
+          let p = of_channel m r h.square o h.of in (
+            h.diffusion,
+            left_or_right level_rect h.square t ((level_squares h.square).0 h.of)
+                (level f w m h.square t p e h.diffusion h.beside h.conducts) h.beside
+                (outside r t level_rect (level_squares (on_layer level_rect t)).1 h.diffusion h.conducts),
+          )),
+      λ (d, b). elim b.beside [ inl g ↦ left_end t d b g | inr g ↦ right_end t d b g ],
+    )
 
   sized_at : (m : Mark) (r : Square) (o : OfMark f m r) → IsSwitchTile m.tile → IsSized (covered (shape f)) r
   sized_at m r o (inl e) =
       transistor (λ s h. λ n. bare f w m s (of_channel m r s o h) e n)
       (record {
-        left = (at_mark m level_cell 2 2).x0;
-        low = (at_mark m level_cell 2 2).y0;
-        squares = squares m r o level_cell 2 2 (is_level_cell m r o e) refl refl;
+        left = (level_rect m r o e).x0;
+        low = (level_rect m r o e).y0;
+        squares = level_squares m r o e;
         ends = level_ends m r o e;
       })
   sized_at m r o (inr e) =
       pull_up (λ s h. implanted f w m s (of_channel m r s o h) e)
       (record {
-        left = (at_mark m upright_cell 2 16).x0;
-        low = (at_mark m upright_cell 2 16).y0;
-        squares = squares m r o upright_cell 2 16 (is_upright_cell m r o e) refl refl;
+        left = (upright_rect m r o e).x0;
+        low = (upright_rect m r o e).y0;
+        squares = upright_squares m r o e;
         ends = upright_ends m r o e;
       })
 
