@@ -39,8 +39,8 @@ pub record IsSmallPlan (r : Rtl) (rects : List Rect) (labels : List ChipLabel) :
   pub few_labels : length labels ≤ 64 * cost r + 5
 
 -- What the rectangles draw is at most so wide and so high as transfers of this cost and word length may be, its
--- channels have their sizes, and at whatever offsets the labels stand, each network of it has one transistor between a
--- pull-up and ground.
+-- channels have their sizes and the sides of their ends, and at whatever offsets the labels stand, each network of it
+-- has one transistor between a pull-up and ground.
 pub record IsBounded (r : Rtl) (rects : List Rect) (labels : List ChipLabel) : Type 0 where
   pub extent : IsAtMost (covered rects) (most_wide (cost r)) (most_high (cost r) r.width)
   pub sized : AreSized (covered rects)
@@ -48,7 +48,8 @@ pub record IsBounded (r : Rtl) (rects : List Rect) (labels : List ChipLabel) : T
       → IsNetwork (covered rects) flat n → IsRatioed n
 
 -- The text is a chip of the program. It draws no more shapes than one of its weight and word length may have, and is no
--- wider and no higher; its channels have their sizes, and its network the ratio of its pull-ups.
+-- wider and no higher. Each channel is a transistor's, 2 lambda long from end to end and 2 wide, or a pull-up's, 16
+-- long and 2 wide, and the network has one transistor between a pull-up and ground.
 pub record IsSmallChipOf (p : Program) (text : List ℕ) : Type 0 where
   pub chip : IsChipOf p text
   pub few : length (chip.draws).shapes ≤ most_rects (weight p) p.width

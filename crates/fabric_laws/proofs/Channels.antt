@@ -47,7 +47,7 @@ use Rattle.fabric_laws.proofs.Tables.{is_layer, lies_in, meets, is_beside_passes
 use Rattle.fabric_laws.proofs.Tables.{is_implanted_passes}
 use Rattle.fabric_laws.proofs.Tables.Kind.{of_ground, of_power, of_segment, of_line}
 
-at_ends : (test : Row → Thing → Cell → Thing → Part → Bool) → all_ends test ≡ true
+pub at_ends : (test : Row → Thing → Cell → Thing → Part → Bool) → all_ends test ≡ true
     → (q : Row) (t : Thing) (h : Cell) (s : Thing) (p : Part) → Member (channels t) h → Member (parts s) p
     → test q t h s p ≡ true
 at_ends test g q t h s p m n =
@@ -98,7 +98,7 @@ no_under t (inl e) g = let h : Tran ≡ Under = sym e ∙ g in cc (h)
 no_under t (inr e) g = let h : PullUp ≡ Under = sym e ∙ g in cc (h)
 
 module _ (f : Plan) (w : IsFabric f) where
-  here_mark : (m : Mark) → Contains f.marks m → IsSwitchTile m.tile → Here f m.band m.row m.column (mark m.tile)
+  pub here_mark : (m : Mark) → Contains f.marks m → IsSwitchTile m.tile → Here f m.band m.row m.column (mark m.tile)
   here_mark m h g = (
     record { mark_ = m; among = h; tile = refl; band = refl; row = refl; column = refl },
     λ e. absurd (no_under m.tile g e),
@@ -158,7 +158,7 @@ module _ (f : Plan) (w : IsFabric f) where
   )
 
   -- ---- neighbours of a channel
-  record Inner (m : Mark) (u v : ℕ) : Type 0 where
+  pub record Inner (m : Mark) (u v : ℕ) : Type 0 where
     pub left : 500 ≤ u
     pub right : u < 9500
     pub bottom : 500 ≤ v
@@ -174,7 +174,7 @@ module _ (f : Plan) (w : IsFabric f) where
       go PullUp e l = l.row
       go Under e l = absurd (cc)
 
-  inner : (m : Mark) (s : Square) (o : OfMark f m s) → Inner m o.u o.v
+  pub inner : (m : Mark) (s : Square) (o : OfMark f m s) → Inner m o.u o.v
   inner m s o =
       let a = and_parts (leb 1 o.cell.x0)
       (leb o.cell.x1 19 && (leb 1 o.cell.y0 && (leb o.cell.y1 11 || is_pull_up (mark m.tile) && leb o.cell.y1 35)))
@@ -211,7 +211,7 @@ module _ (f : Plan) (w : IsFabric f) where
     in_x = a.in_x;
   }
 
-  near : (m : Mark) (s t : Square) (o : OfMark f m s) (b r c u v : ℕ) → At f b r c u v t.x t.y → ShareEdge s t
+  pub near : (m : Mark) (s t : Square) (o : OfMark f m s) (b r c u v : ℕ) → At f b r c u v t.x t.y → ShareEdge s t
       → Near m o.u o.v b r c u v
   near m s t o b r c u v a (inl (g, inl h)) =
       elim (to_right f m.band m.row m.column o.u o.v b r c u v s.x s.y t.x h o.at
@@ -237,7 +237,7 @@ module _ (f : Plan) (w : IsFabric f) where
         | next k e d q ↦ (let i = (inner m s o).bottom in absurd (omega arith))
       ]
 
-  near_tile : {m : Mark} {u v b r c u2 v2 : ℕ} → Near m u v b r c u2 v2 → SameTile m.band m.row m.column b r c
+  pub near_tile : {m : Mark} {u v b r c u2 v2 : ℕ} → Near m u v b r c u2 v2 → SameTile m.band m.row m.column b r c
   near_tile (to_right_ k e d) = k
   near_tile (to_left_ k e d) = k
   near_tile (to_top_ k e d) = k

@@ -16,4 +16,5 @@ mod Nodes
 mod Channels
 mod Network
 mod Small
+mod Ends
 mod Sizes

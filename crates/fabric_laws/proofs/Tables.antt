@@ -335,6 +335,20 @@ is_beside q t h s p =
     && (is_layer ND p.cell && (right_of h p.cell || (right_of p.cell h || (upon h p.cell || upon p.cell h)))))
     (ends_at t p.kind)
 
+-- no diffusion that conducts stands at a side of a pull-up's channel,
+abbrev pub is_upright : Row → Thing → Cell → Thing → Part → Bool
+is_upright q t h s p =
+    implies
+    (together q t s && (is_pull_up t && (is_layer ND p.cell && (right_of h p.cell || right_of p.cell h))))
+    false
+
+-- and none below or above a transistor's
+abbrev pub is_level : Row → Thing → Cell → Thing → Part → Bool
+is_level q t h s p =
+    implies
+    (together q t s && (not (is_pull_up t) && (is_layer ND p.cell && (upon h p.cell || upon p.cell h))))
+    false
+
 -- a test over all pairs of a channel and a rectangle
 abbrev pub all_implants : (Row → Thing → Cell → Thing → Cell → Bool) → Bool
 all_implants test = every
@@ -407,6 +421,12 @@ is_unburied_passes = refl
 
 pub is_beside_passes : all_ends is_beside ≡ true
 is_beside_passes = refl
+
+pub is_upright_passes : all_ends is_upright ≡ true
+is_upright_passes = refl
+
+pub is_level_passes : all_ends is_level ≡ true
+is_level_passes = refl
 
 pub is_inner_passes : every_channel is_inner ≡ true
 is_inner_passes = refl

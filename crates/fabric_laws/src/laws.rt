@@ -28,7 +28,8 @@ pub fn fabrics_are_small()
     fabric_draws_its_switches();
 }
 
-/// Each channel of a fabric is a transistor's, 2 by 2 lambda, or a pull-up's, 2 wide and 16 high.
+/// Each channel of a fabric is a transistor's, 2 by 2 lambda with its ends at the left and the right, or a pull-up's,
+/// 2 wide and 16 high with its ends below and above.
 pub fn channels_are_sized()
     ensures { FabricsAreSized }
 {
