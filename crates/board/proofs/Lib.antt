@@ -7,3 +7,4 @@ mod Words
 pub mod JoinedLoops
 mod GoingOn
 mod Verdict
+mod Existence

@@ -7,7 +7,7 @@ use Rattle.transcript.specs.Laws.{StepsOn}
 use Rattle.mp_base.specs.declared.pad.Pads.{Pads}
 use Rattle.mp_base.specs.declared.refusal.Broken.{Broken}
 use Rattle.board.specs.declared.link.Link.{Link}
-use Rattle.board.specs.Links.{AreLinks, IsFirstBroken}
+use Rattle.board.specs.Links.{AreLinks, IsFirstBroken, OfWords}
 use Rattle.board.specs.Face.{Face}
 use Rattle.board.specs.Printing.{PrintsLines, PrintsLoop}
 use Rattle.board.specs.Loop.{Wired, inputs_at, is_settled, inputs_along, faces_along}
@@ -56,3 +56,7 @@ abbrev pub WholeOrBroken : Type 0
 WholeOrBroken =
     (parts words : List (List ℕ)) (pads : Pads) (links : List Link) (b : Broken) → AreLinks parts pads words links
     → ¬ IsFirstBroken parts pads words b
+
+-- and one of both is so of all words
+abbrev pub LinksVerdict : Type 0
+LinksVerdict = (parts words : List (List ℕ)) (pads : Pads) → (first : Option Broken) × OfWords parts pads words first

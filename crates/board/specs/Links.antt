@@ -9,8 +9,6 @@ use Rattle.mp_base.specs.declared.refusal.Broken.{Broken}
 use Rattle.mp_base.specs.declared.refusal.Family.TheVariants.{B}
 use Rattle.mp_base.specs.declared.refusal.Rule.{Rule}
 use Rattle.mp_base.specs.declared.refusal.Spot.TheVariants.{Named}
-use Rattle.mp_base.specs.declared.refusal.Refusal.{Refusal}
-use Rattle.mp_base.specs.declared.refusal.Refusal.TheVariants as refusals
 use Rattle.board.specs.declared.link.Link.{Link}
 use Rattle.board.specs.declared.link.Naming.{Naming}
 use Rattle.board.specs.Boarding.{AreApart}

@@ -1,6 +1,6 @@
 //! Laws of loops: a call of one does nothing, and tells the caller's proof what it ensures.
 
-ghost use Rattle.board.specs.Laws.{BrokenOnce, GoesOn, InputsFit, LinksOnce, LoopsAgree, WholeOrBroken};
+ghost use Rattle.board.specs.Laws.{BrokenOnce, GoesOn, InputsFit, LinksOnce, LinksVerdict, LoopsAgree, WholeOrBroken};
 
 use transcript::Device;
 
@@ -24,4 +24,9 @@ pub fn one_reading()
     ensures links { LinksOnce }
     ensures first { BrokenOnce }
     ensures whole { WholeOrBroken }
+{}
+
+/// Words have a verdict: they stand for links, or break a rule first, at a word.
+pub fn links_verdict()
+    ensures { LinksVerdict }
 {}

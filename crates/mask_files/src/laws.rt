@@ -1,4 +1,4 @@
-//! A law of files of masks: a call of it does nothing, and tells the caller's proof what it ensures.
+//! Laws of files of masks: a call of one does nothing, and tells the caller's proof what it ensures.
 
 ghost use Rattle.std.specs.Prelude.{◌≡◌, ℕ, List, Option};
 ghost use Rattle.outside.specs.Outside.{Files};
@@ -6,6 +6,7 @@ ghost use Rattle.outcome.specs.Order.{Fault};
 ghost use Rattle.mask_files.specs.Faults.{MaskFault};
 
 use mask_net::laws::one_verdict;
+use mask_verdict::laws::file_verdict;
 
 /// A file of masks has one first fault at most.
 pub fn one_mask_fault()
@@ -13,4 +14,11 @@ pub fn one_mask_fault()
         → a ≡ b }
 {
     one_verdict();
+}
+
+/// A file of masks has a verdict on all files: a first fault, or that there is none.
+pub fn a_mask_fault()
+    ensures { (cif : List ℕ) (files : Files) → (fault : Option Fault) × MaskFault cif files fault }
+{
+    file_verdict();
 }

@@ -1,3 +1,4 @@
 pub mod Numbers
 pub mod Fitting
 pub mod Sums
+pub mod OneSum

@@ -1,4 +1,4 @@
--- What holds of sums where all clocks but the first are settled.
+-- What holds of sums.
 use Rattle.std.specs.Prelude.{◌≡◌, ℕ, suc, ◌<◌, List, [], length, slice_index_or}
 use Rattle.mp_base.specs.declared.value.Trit.{Trit}
 use Rattle.mp_program.specs.declared.program.Program.{Program}
@@ -28,3 +28,12 @@ SumsSettle p =
     (given : Stimulus) (shown : List (List (List Trit))) (outputs : List (List ℕ)) → ArePadsOf p given.pads
     → 0 < length (given.pads).outputs → 0 < length given.clocks → SettlesBehindFirst p (inputs_of given)
     → ShowsTrace p given shown outputs → IsSettledSum p (inputs_of given) outputs (sum_shown shown)
+
+-- whatever is shown, it has a sum
+abbrev pub SumExists : Type 0
+SumExists = (p : Program) (inputs outputs : List (List ℕ)) → (total : ℕ) × IsSettledSum p inputs outputs total
+
+-- and no other
+abbrev pub SumOnce : Type 0
+SumOnce = (p : Program) (inputs outputs : List (List ℕ)) (a b : ℕ) → IsSettledSum p inputs outputs a
+    → IsSettledSum p inputs outputs b → a ≡ b

@@ -1,6 +1,6 @@
-//! A law of sums: a call of it does nothing, and tells the caller's proof what it ensures.
+//! Laws of sums: a call of one does nothing, and tells the caller's proof what it ensures.
 
-ghost use Rattle.settled_sum.specs.Laws.{SumsSettle};
+ghost use Rattle.settled_sum.specs.Laws.{SumExists, SumOnce, SumsSettle};
 
 use mp_checker::Checked;
 use mp_fitting::{zero_is_a_state, zero_state_fits};
@@ -16,3 +16,9 @@ pub fn sums_settle(checked: &Checked)
     zero_state_fits(program);
     clocks_fit(checked);
 }
+
+/// Whatever is shown, it has a sum of its settled clocks, exactly one.
+pub fn one_sum()
+    ensures exist { SumExists }
+    ensures once { SumOnce }
+{}

@@ -1,2 +1,3 @@
+pub mod Existence
 pub mod FirstFault
 pub mod Simulating
