@@ -6,8 +6,10 @@ ghost use Rattle.cif_writer.specs.Texts.{file_text};
 ghost use Rattle.cif_emit.specs.Emittable.{chip_rects, IsEmittable};
 ghost use Rattle.cif_emit.specs.Emitted.{IsEmitted};
 ghost use Rattle.compile_laws.specs.Laws.{IsSmallChipOf};
+ghost use Rattle.chip_text.specs.Texts.{IsPlainChipOf};
 
 use crate::text::text_of;
+use cif_form::laws::{reading_is_unique, written_is_read};
 use compile_laws::laws::chips_are_made;
 use fabric::Chip;
 use mp_base::NoMemory;
@@ -36,14 +38,17 @@ fn chip_of(alloc: Global, checked: &Checked) -> Result<Chip, NoMemory>
     Ok(chip)
 }
 
-/// The text of the CIF file of a program's chip. It draws at most 100 · (weight + 8) · (word length + 1) shapes.
+/// The text of the CIF file of a program's chip. It draws at most 100 · (weight + 8) · (word length + 1) shapes, in
+/// plain commands: no byte of it is a comment.
 ///
 /// # Errors
 ///
-/// `NoMemory`.
+/// `NoMemory`, also for a text of more than [`TEXT_LIMIT`](crate::TEXT_LIMIT) bytes.
 pub fn chip_text(alloc: Global, checked: &Checked) -> Result<Vec<u8>, NoMemory>
-    ensures { IfOk result (λ text. IsSmallChipOf checked.now.program text.items) }
+    ensures { IfOk result (λ text. IsPlainChipOf checked.now.program text.items) }
 {
+    written_is_read();
+    reading_is_unique();
     let chip = chip_of(alloc, checked)?;
     text_of(alloc, &chip)
 }
