@@ -19,6 +19,7 @@ compiled text chip program is spelled = record {
   ratioed = (is.small).ratioed;
   named = (is.small).named;
   written = (is.small).written;
+  few_commands = is.few;
   plain = is.plain;
   short = is.short;
 }
