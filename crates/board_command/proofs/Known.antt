@@ -7,7 +7,7 @@ use Rattle.mp_source.specs.Source.{IsSource}
 use Rattle.switch_net.specs.declared.network.Network.{Network}
 use Rattle.mask_net.specs.Masks.{IsNetOf}
 use Rattle.headline.specs.Headline.{IsChipOf}
-use Rattle.compile_laws.specs.Laws.{IsSmallChipOf}
+use Rattle.chip_text.specs.Texts.{IsPlainChipOf}
 use Rattle.compile_command.proofs.Compiling.{compiled}
 use Rattle.source_files.proofs.Sources.{OneSource, one_program}
 use Rattle.outcome.specs.declared.halt.Halt.{Halt}
@@ -39,7 +39,7 @@ pub record Known (lent : Lent) (source : List ℕ) (words : List (List ℕ)) (ch
   pub network : Network
   pub is_source : IfSome held (λ files. IsSource (bytes_of files source) program)
   pub unbroken : IsUnbroken program
-  pub is_chip : IsSmallChipOf program chip
+  pub is_chip : IsPlainChipOf program chip
   pub is_board : IsBoardOf program wired
   pub linked : AreLinks lent.names (wired.pads) words wired.links
   pub drawn : IsNetOf chip network
@@ -69,7 +69,7 @@ module _ (lent : Lent) (source cif : List ℕ) (clocks : ℕ) (words : List (Lis
           → AreMoved lent (bytes_of files source) words clocks printed left
       moved printed left are =
           let f = follow known.program chip known.network known.wired clocks lent.faces are.text known.unbroken
-          (known.is_chip).chip known.drawn known.is_board are.board in
+          ((known.is_chip).small).chip known.drawn known.is_board are.board in
           record {
             program = known.program;
             wired = known.wired;

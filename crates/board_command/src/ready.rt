@@ -5,6 +5,7 @@ ghost use Rattle.mp_program.specs.Trace.{stores};
 ghost use Rattle.mask_net.specs.Masks.{IsNetOf};
 ghost use Rattle.switch_net.specs.Breaks.{HasPads};
 ghost use Rattle.compile_laws.specs.Laws.{IsSmallChipOf};
+ghost use Rattle.chip_text.specs.Texts.{IsPlainChipOf};
 ghost use Rattle.board.specs.Boarding.{AreWires};
 ghost use Rattle.board.specs.Loop.{Wired};
 
@@ -57,7 +58,7 @@ pub(crate) fn chip_on_board<'a>(
 ) -> Result<Ready<'a>, NoMemory>
     requires few { length checked.now.pads.inputs < 2 ^ 32 }
     requires wires { AreWires checked.now.pads links }
-    ensures chip { IfOk result (λ r. IsSmallChipOf checked.now.program r.chip.items) }
+    ensures chip { IfOk result (λ r. IsPlainChipOf checked.now.program r.chip.items) }
     ensures drawn { IfOk result (λ r. IsNetOf r.chip.items r.circuit.network) }
     ensures wired { IfOk result (λ r. let w : Wired = record {
       pads = checked.now.pads;

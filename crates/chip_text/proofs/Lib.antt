@@ -1,1 +1,3 @@
+mod Plain
+mod Few
 mod Chips

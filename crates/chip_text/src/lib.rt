@@ -2,6 +2,8 @@
 #![tactic(auto)]
 
 mod chip;
+mod limits;
 mod text;
 
 pub use chip::chip_text;
+pub use limits::TEXT_LIMIT;

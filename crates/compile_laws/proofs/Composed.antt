@@ -1,20 +1,20 @@
 -- What the steps promise makes the text a chip of the program.
-use Rattle.std.proofs.Common.{ℕ, ◌≡◌, ◌+◌, ◌*◌, ◌≤◌, refl, ap, subst, List, [], ◌∷◌, length, map, arith}
+use Rattle.std.proofs.Common.{ℕ, ◌≡◌, ◌∙◌, ◌+◌, ◌*◌, ◌≤◌, refl, ap, sym, subst, List, [], ◌∷◌, length, map, arith}
 use Rattle.std.specs.Prelude.{All, codes, false, ℤ, pos, ◌+ℤ◌, ◌≤ℤ◌}
 use Rattle.std.proofs.lemmas.Int.{ints}
-use Rattle.std.proofs.lemmas.List.Elements.{All-nil, All-cons}
 use Rattle.std.proofs.Math.Nat.{mul-le-mul_left}
+use Rattle.lam_geom.specs.declared.label.FlatLabel.{FlatLabel}
 use Rattle.lam_geom.specs.declared.rect.Rect.{Rect}
 use Rattle.lam_geom.specs.Extent.{ExtentOfSquares, IsAtMost}
 use Rattle.lam_geom.specs.Squares.{covered, SameSquares}
 use Rattle.cif_form.specs.declared.command.Command.{Command}
 use Rattle.cif_form.specs.declared.command.Item.{Item}
-use Rattle.cif_form.specs.Text.{◌▹◌, Byte, Blanks, IsBlank, Reads}
+use Rattle.cif_form.specs.Text.{◌▹◌, Byte, Blanks}
 use Rattle.cif_form.specs.Fits.{Fits}
 use Rattle.cif_form.specs.Scans.{FileScans, Nests}
 use Rattle.cif_form.specs.Scans.TextEnd.{Whole}
 use Rattle.cif_form.specs.Walk.{walk_limit}
-use Rattle.cif_form.specs.Writing.{written, placed_items, text_of}
+use Rattle.cif_form.specs.Writing.{written, placed_items}
 use Rattle.cif_writer.specs.Texts.{file_text}
 use Rattle.switch_net.specs.Laws.{TraceExists}
 use Rattle.switch_net.specs.Breaks.{IsSoundMask}
@@ -25,46 +25,33 @@ use Rattle.mp_program.specs.Trace.{IsTrace}
 use Rattle.mp_program.specs.Weight.{weight}
 use Rattle.headline.specs.Headline.{IsChipOf}
 use Rattle.fabric.specs.declared.chip.ChipLabel.{ChipLabel}
+use Rattle.fabric.specs.Labelled.{AreLabelsOf}
 use Rattle.rtl_form.specs.declared.rtl.Rtl.{Rtl}
 use Rattle.rtl_form.specs.Cost.{cost}
 use Rattle.process_plan.specs.Same.{IsSame}
 use Rattle.chip_laws.specs.Planned.{IsPlanned}
 use Rattle.cif_emit.specs.Emitted.{IsEmitted}
 use Rattle.compile_laws.proofs.Sizes.{same_sizes}
+use Rattle.compile_laws.proofs.Written.{WrittenIsRead, feed, placed, semicolon}
 use Rattle.compile_laws.specs.Laws.{most_high, most_rects, most_wide, IsBounded, IsSmallChipOf, MakesChips}
 use Rattle.compile_laws.proofs.Sequenced.{shows, settles}
 
-placed : (semi : List ℕ) (offset : ℕ) (cs : List Command)
-    → map (λ (i : Item). i.command) (placed_items semi offset cs) ≡ cs
-placed semi offset [] = refl
-placed semi offset (c ∷ cs) = ap (λ xs. c ∷ xs) (placed semi (offset + (length (text_of c) + length semi)) cs)
-
-line_feed : IsBlank 10
-line_feed = (
-  (λ h. omega arith),
-  (λ h. omega arith),
-  (λ h. omega arith),
-  (λ h. omega arith),
-  (λ h. omega arith),
-  (λ h. omega arith),
-)
-
-feed : Blanks (codes "\n")
-feed = All-cons IsBlank 10 [] line_feed (All-nil IsBlank)
-
-semicolon : (Byte 59 ▹ Blanks) (codes ";\n")
-semicolon = (59 ∷ [], 10 ∷ [], refl, refl, feed)
-
--- what is written of commands is read as these commands, and breaks no rule of texts
-abbrev WrittenIsRead : Type 0
-WrittenIsRead =
-    (semi last : List ℕ) → (Byte 59 ▹ Blanks) semi → Blanks last → (cs : List Command) → All Fits cs
-    → (offset : ℕ) → Reads offset (written semi last cs) (placed_items semi offset cs)
-
+-- what is written of commands that may stand where they do breaks no rule of texts
 abbrev WrittenIsWhole : Type 0
 WrittenIsWhole =
     (semi last : List ℕ) → (Byte 59 ▹ Blanks) semi → Blanks last → (cs : List Command) → All Fits cs → Nests false cs
     → FileScans (written semi last cs) (placed_items semi 0 cs) Whole
+
+-- labels of a file have the names of the chip's
+same_names : (labels : List ChipLabel) (flat : List FlatLabel) → AreLabelsOf labels flat
+    → map (λ (l : FlatLabel). l.name) flat ≡ map (λ (l : ChipLabel). l.name) labels
+same_names [] [] are = refl
+same_names [] (f ∷ fs) are = absurd are
+same_names (l ∷ ls) [] are = absurd are
+same_names (l ∷ ls) (f ∷ fs) are =
+    let name = (are.0).name in
+    let names = same_names ls fs are.1 in
+    λ i. name i ∷ names i
 
 -- the walk of a chip stays within its limit
 short_walk : (rects labels cost width : ℕ) → rects ≤ most_rects cost width → labels ≤ 64 * cost + 5
@@ -157,6 +144,8 @@ module _
                   bounded.extent);
               sized = same_sizes (covered rects) (covered drawn.shapes) drawn.same bounded.sized;
               ratioed = bounded.ratioed drawn.flat drawn.labelled found.0 found.1;
+              named = same_names labels drawn.flat drawn.labelled ∙ planned.named;
+              written = ap file_text (sym (placed (codes ";\n") 0 commands));
             }
 
     pub made : weight p ≤ 1024 → p.width ≤ 32 → MakesChips p

@@ -1,4 +1,5 @@
 mod Unbroken
 mod Sequenced
+pub mod Written
 mod Composed
 mod Sizes

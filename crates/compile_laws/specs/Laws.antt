@@ -1,13 +1,14 @@
 -- From the promises of the compiler's steps to the headline.
-use Rattle.std.specs.Prelude.{◌+◌, ◌*◌, ◌≤◌, ℕ, List, length}
+use Rattle.std.specs.Prelude.{◌≡◌, ◌+◌, ◌*◌, ◌≤◌, ℕ, List, length, map}
 use Rattle.lam_geom.specs.declared.label.FlatLabel.{FlatLabel}
 use Rattle.lam_geom.specs.declared.rect.Rect.{Rect}
 use Rattle.lam_geom.specs.Extent.{IsAtMost}
 use Rattle.lam_geom.specs.Squares.{covered}
 use Rattle.cif_form.specs.declared.command.Command.{Command}
-use Rattle.cif_writer.specs.Texts.{file_text}
+use Rattle.cif_writer.specs.Texts.{commands_of, file_text}
 use Rattle.switch_net.specs.declared.network.Network.{Network}
 use Rattle.switch_net.specs.Drawn.{IsNetwork}
+use Rattle.switch_net.specs.Pads.{chip_labels}
 use Rattle.mp_program.specs.declared.program.Program.{Program}
 use Rattle.mp_program.specs.Weight.{weight}
 use Rattle.headline.specs.Headline.{IsChipOf}
@@ -49,13 +50,16 @@ pub record IsBounded (r : Rtl) (rects : List Rect) (labels : List ChipLabel) : T
 
 -- The text is a chip of the program. It draws no more shapes than one of its weight and word length may have, and is no
 -- wider and no higher. Each channel is a transistor's, 2 lambda long from end to end and 2 wide, or a pull-up's, 16
--- long and 2 wide, and the network has one transistor between a pull-up and ground.
+-- long and 2 wide, and the network has one transistor between a pull-up and ground. Each label of the pads is there,
+-- once, in order, and no other; and the text is what is written of its commands.
 pub record IsSmallChipOf (p : Program) (text : List ℕ) : Type 0 where
   pub chip : IsChipOf p text
   pub few : length (chip.draws).shapes ≤ most_rects (weight p) p.width
   pub extent : IsAtMost (covered (chip.draws).shapes) (most_wide (weight p)) (most_high (weight p) p.width)
   pub sized : AreSized (covered (chip.draws).shapes)
   pub ratioed : IsRatioed chip.network
+  pub named : map (λ (l : FlatLabel). l.name) (chip.draws).labels ≡ chip_labels chip.pads
+  pub written : text ≡ file_text (commands_of (chip.draws).commands)
 
 -- Transfers that are the program's, a bounded plan that follows them and commands that draw the plan: their text is a
 -- chip of the program.

@@ -14,7 +14,7 @@ use Rattle.mp_source.specs.Source.{IsSource}
 use Rattle.sim_run.specs.Laws.{TranscriptExists}
 use Rattle.mask_net.specs.SizeLine.{last_line}
 use Rattle.headline.specs.Headline.{IsChipOf}
-use Rattle.compile_laws.specs.Laws.{IsSmallChipOf}
+use Rattle.chip_text.specs.Texts.{IsPlainChipOf}
 use Rattle.replay_run.specs.Replay.{IsReplay}
 use Rattle.replay_run.specs.Laws as circuits
 use Rattle.source_files.specs.Faults.{RunFault}
@@ -41,10 +41,10 @@ a_replay exist net given has =
     )
 
 -- what is played of a chip
-pub of_chip : (program : Program) (given : Stimulus) (chip : List ℕ) → IsSmallChipOf program chip
+pub of_chip : (program : Program) (given : Stimulus) (chip : List ℕ) → IsPlainChipOf program chip
     → (bytes text : List ℕ) → Plays chip given bytes text → PlaysChipOf program given bytes text
 of_chip program given chip masks bytes text plays = (
-  subst (IsSmallChipOf program) (sym plays.same) masks,
+  subst (IsPlainChipOf program) (sym plays.same) masks,
   record { same = refl; network = plays.network; drawn = plays.drawn; replay = plays.replay },
 )
 

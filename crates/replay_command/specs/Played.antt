@@ -7,6 +7,7 @@ use Rattle.stimulus.specs.declared.given.Stimulus.{Stimulus}
 use Rattle.switch_net.specs.declared.network.Network.{Network}
 use Rattle.mask_net.specs.Masks.{IsNetOf}
 use Rattle.compile_laws.specs.Laws.{IsSmallChipOf}
+use Rattle.chip_text.specs.Texts.{IsPlainChipOf}
 use Rattle.replay_run.specs.Replay.{IsReplay}
 
 -- the chip of a program, with a stimulus for the program's pads
@@ -25,4 +26,4 @@ pub record Plays (chip : List ℕ) (given : Stimulus) (bytes text : List ℕ) : 
 
 -- the same of the bytes of a chip of the program
 abbrev pub PlaysChipOf : Program → Stimulus → List ℕ → List ℕ → Type 0
-PlaysChipOf program given bytes text = IsSmallChipOf program bytes × Plays bytes given bytes text
+PlaysChipOf program given bytes text = IsPlainChipOf program bytes × Plays bytes given bytes text

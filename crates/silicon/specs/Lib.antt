@@ -2,3 +2,4 @@ pub mod Faults
 pub mod Parts
 pub mod Run
 pub mod Complete
+pub mod ReadBack

@@ -13,10 +13,12 @@ ghost use Rattle.board_command.specs.Parts.{Lent};
 ghost use Rattle.board_command.specs.Played.{PlaysFollow};
 ghost use Rattle.silicon.specs.Faults.{IsFirstFault};
 ghost use Rattle.silicon.specs.Complete.{IsRun, AnyRose, AnyGreater, status_by};
+ghost use Rattle.silicon.specs.ReadBack.{CompiledFilesAreRead};
 
 use board_command::laws::{one_link_fault, plays_follow};
 use mask_files::laws::one_mask_fault;
 use replay_command::laws::replays_follow as circuits_follow;
+use replay_run::laws::chips_run;
 use sim_command::laws::one_circuit_fault;
 use source_files::laws::one_fault;
 
@@ -52,6 +54,14 @@ pub fn completeness()
         → (status ≡ ReadFault) ⊎ (status ≡ WriteFault) }
 {
     one_first_fault();
+}
+
+/// Of a file that `compile` wrote, or another command that writes the masks of a source, `net` finds no fault: it is no
+/// longer than may be read, and breaks no rule.
+pub fn compiled_files_are_read()
+    ensures { CompiledFilesAreRead }
+{
+    chips_run();
 }
 
 /// What a replay of a compiled chip shows in each settled clock is what the source's program shows: the line is that of

@@ -6,7 +6,7 @@ use Rattle.make_command.proofs.command.made.Goals as goal
 
 pub summary_of-requires-clause-chip : goal.summary_of-requires-clause-chip
 summary_of-requires-clause-chip c =
-    subst (IsSmallChipOf c.in_ok-ready.ready.checked.program) (sym c.deref.ensures.value) c.in_ok-chip.ensures
+    subst (IsSmallChipOf c.in_ok-ready.ready.checked.program) (sym c.deref.ensures.value) c.in_ok-chip.ensures.small
 
 pub returns-clause-compiled : goal.returns-clause-compiled
 returns-clause-compiled c =

@@ -15,7 +15,7 @@ use Rattle.replay_command.proofs.played.play.Goals as goal
 
 pub circuit_of-requires : goal.circuit_of-requires
 circuit_of-requires g c = record {
-  masks = subst (IsSmallChipOf c.args.made.now.checked.program) (sym c.deref.ensures.value) c.in_ok-chip.ensures;
+  masks = subst (IsSmallChipOf c.args.made.now.checked.program) (sym c.deref.ensures.value) c.in_ok-chip.ensures.small;
   padded = c.requires.padded;
   few_inputs = c.requires.few_inputs;
   few_clocks = c.requires.few_clocks;
