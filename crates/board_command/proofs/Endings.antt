@@ -8,7 +8,7 @@ use Rattle.outcome.specs.World.{World, Leaves}
 use Rattle.outcome.specs.Halt.{EndsBy}
 use Rattle.outcome.specs.declared.halt.Halt.{Halt}
 use Rattle.outcome.specs.declared.halt.Halt.TheVariants.{Refused, ReadFault, WriteFault, NoMemory}
-use Rattle.stages.proofs.Ending.{leaves_on}
+use Rattle.stages.proofs.Ending.{OnlyReads, ends_since, leaves_on}
 use Rattle.board_command.specs.Parts.{Lent}
 use Rattle.board_command.specs.Work.{work, Rests}
 use Rattle.board_command.specs.Shown.{Boards}
@@ -26,30 +26,37 @@ pub rests_cut : {P : Type 0} (faces left : List P) (result : Result (Unit {0}) H
 rests_cut faces left (Ok v) is = tt
 rests_cut faces left (Err e) is = subst (λ h. Rests {T = Unit {0}} faces left (Err h)) (sym is) tt
 
--- what is left of files that were only read is left of those at entry
-pub leaves_since : (P : Files → Files → List ℕ → Type 0) (before middle after : World)
-    → Keeps before.files middle.files → middle.text ≡ before.text → Leaves P middle after → Leaves P before after
-leaves_since P before middle after kept same left =
-    leaves_on P P before middle after kept same (itself middle.files) left
-  where
-    itself : (held : Option Files)
-        → IfSome held (λ files. (new : Files) (printed : List ℕ) → P files new printed → P files new printed)
-    itself None = tt
-    itself (Some files) = λ new printed told. told
-
 module _ (lent : Lent) (source cif : List ℕ) (clocks : ℕ) (words : List (List ℕ)) where
-  halted_told : (halt : Halt) (x y : Option Files) (r r' : ℕ) → Keeps x y
+  -- what is left of files that were only read is left of those at entry
+  pub plays_since : (left : List Face) (result : Result (Unit {0}) Halt) (before middle after : World)
+      → Keeps before.files middle.files → OnlyReads before middle
+      → Leaves (Boards lent source cif clocks words left result) middle after
+      → Leaves (Boards lent source cif clocks words left result) before after
+  plays_since left result before middle after kept only leaves =
+      leaves_on (Boards lent source cif clocks words left result) (Boards lent source cif clocks words left result)
+      before middle after kept only.text (since middle.files) leaves
+    where
+      since : (held : Option Files) → IfSome held (λ files. (new : Files) (printed : List ℕ)
+          → Boards lent source cif clocks words left result middle after files new printed
+          → Boards lent source cif clocks words left result before after files new printed)
+      since None = tt
+      since (Some files) = λ new printed told. (
+        ends_since before middle after only (work lent source cif clocks words) files new printed result told.0,
+        told.1,
+      )
+
+  halted_told : (halt : Halt) (before after : World) (x y : Option Files) (r r' : ℕ) → Keeps x y
       → EndsBy (work lent source cif clocks words).First y r r' halt
-      → WhereTold (λ old new. Boards lent source cif clocks words lent.faces (Err halt) old new []) x y
-  halted_told halt x None r r' kept ends = tt
-  halted_told halt None (Some b) r r' kept ends = absurd kept
-  halted_told (Refused broken) (Some a) (Some b) r r' kept ends = (
+      → WhereTold (λ old new. Boards lent source cif clocks words lent.faces (Err halt) before after old new []) x y
+  halted_told halt before after x None r r' kept ends = tt
+  halted_told halt before after None (Some b) r r' kept ends = absurd kept
+  halted_told (Refused broken) before after (Some a) (Some b) r r' kept ends = (
     (subst (λ files. (work lent source cif clocks words).First files (Some (Breaks broken))) kept ends.1, kept, refl),
     refl,
   )
-  halted_told ReadFault (Some a) (Some b) r r' kept ends = ((kept, refl), refl)
-  halted_told WriteFault (Some a) (Some b) r r' kept ends = absurd ends
-  halted_told NoMemory (Some a) (Some b) r r' kept ends = ((kept, refl), refl)
+  halted_told ReadFault before after (Some a) (Some b) r r' kept ends = ((kept, refl), refl)
+  halted_told WriteFault before after (Some a) (Some b) r r' kept ends = absurd ends
+  halted_told NoMemory before after (Some a) (Some b) r r' kept ends = ((kept, refl), refl)
 
   -- it ended while it read and judged, or for want of memory
   pub plays_halted : (halt : Halt) (result : Result (Unit {0}) Halt) (before after : World) (r r' : ℕ)
@@ -61,5 +68,5 @@ module _ (lent : Lent) (source cif : List ℕ) (clocks : ℕ) (words : List (Lis
       subst (λ h. Leaves (Boards lent source cif clocks words lent.faces (Err h)) before after) (sym is) (record {
         printed = [];
         gained = subst (λ text. WhereTold (Gains []) before.text text) (sym same) (gains_nothing before.text);
-        told = halted_told halt before.files after.files r r' kept ends;
+        told = halted_told halt before after before.files after.files r r' kept ends;
       })

@@ -5,8 +5,8 @@ use Rattle.outside.specs.Outside.{Files, WhereTold, Gains}
 use Rattle.outside.specs.Transfer.{Holds, HoldsPart}
 use Rattle.outside.proofs.Told.{told_map, gains_nothing}
 use Rattle.switch_net.specs.declared.network.Network.{Network}
-use Rattle.outcome.specs.Work.{Work, IsDone, IsCutShort}
-use Rattle.outcome.specs.World.{World, Leaves}
+use Rattle.outcome.specs.Work.{Work, IsDone}
+use Rattle.outcome.specs.World.{World, Leaves, IsCutShort, StoreFailed, PrintFailed}
 use Rattle.outcome.specs.Halt.{Ends}
 use Rattle.outcome.specs.declared.halt.Halt.{Halt}
 use Rattle.outcome.specs.declared.halt.Halt.TheVariants.{WriteFault}
@@ -22,9 +22,9 @@ module _ (cif chip : List ℕ) (network : Network) (w : Wired) (clocks : ℕ) (f
   Stage = second (Some cif) (Plays chip network w clocks faces)
 
   -- what is given to the files and the output, and how the parts are left
-  abbrev pub Given : List Face → Result (Unit {0}) Halt → Files → Files → List ℕ → Type 0
-  Given left result old new printed =
-      Ends (second (Some cif) (Plays chip network w clocks faces)) result old new printed
+  abbrev pub Given : List Face → Result (Unit {0}) Halt → World → World → Files → Files → List ℕ → Type 0
+  Given left result before after old new printed =
+      Ends (second (Some cif) (Plays chip network w clocks faces)) result before after old new printed
       × AreLeft network w clocks faces printed left
 
   -- an error that was passed on
@@ -36,49 +36,48 @@ module _ (cif chip : List ℕ) (network : Network) (w : Wired) (clocks : ℕ) (f
 
   -- a part of the file was stored
   pub stored_in_part : (text : List ℕ) → IsBoarded network w clocks faces text → (result : Result (Unit {0}) Halt)
-      (before after : World) → IsErrAnd result (λ h. h ≡ WriteFault)
-      → WhereTold (HoldsPart cif chip) before.files after.files → after.text ≡ before.text
-      → Leaves (Given faces result) before after
-  stored_in_part text board result before after is stored same =
+      (before after : World) → IsErrAnd result (λ h. h ≡ WriteFault) → StoreFailed before after
+      → WhereTold (HoldsPart cif chip) before.files after.files → Leaves (Given faces result) before after
+  stored_in_part text board result before after is why stored =
       let left : AreLeft network w clocks faces [] faces = record { text = text; board = board; parts = refl } in
-      let cut : (old new : Files) → HoldsPart cif chip old new → IsCutShort Stage old new [] =
+      let cut : (old new : Files) → HoldsPart cif chip old new → IsCutShort Stage before after old new [] =
       λ old new part. record {
         fault = tt;
         chip = chip;
         text = text;
         shows = (refl, board);
-        part = inl (refl, part);
+        part = inl (why, refl, part);
       } in
       by_err faces result before after is (record {
         printed = [];
-        gained = subst (λ t. WhereTold (Gains []) before.text t) (sym same) (gains_nothing before.text);
-        told = told_map (HoldsPart cif chip) (λ old new. Given faces (Err WriteFault) old new []) before.files
-            after.files (λ old new part. (cut old new part, left)) stored;
+        gained = subst (λ t. WhereTold (Gains []) before.text t) (sym why.text) (gains_nothing before.text);
+        told = told_map (HoldsPart cif chip) (λ old new. Given faces (Err WriteFault) before after old new [])
+            before.files after.files (λ old new part. (cut old new part, left)) stored;
       })
 
   -- the file was stored, and a part of the text printed
   pub printed_in_part : {T E : Type 0} (e : E) (left : List Face) (result : Result (Unit {0}) Halt)
-      (before after : World) → IsErrAnd result (λ h. h ≡ WriteFault)
+      (before after : World) → IsErrAnd result (λ h. h ≡ WriteFault) → PrintFailed before after
       → WhereTold (Holds cif chip) before.files after.files
       → PrintsBoard {T = T} {E = E} network w clocks faces left before.text after.text (Err e)
       → Leaves (Given left result) before after
-  printed_in_part e left result before after is stored prints =
+  printed_in_part e left result before after is why stored prints =
       let printed : List ℕ = take prints.count prints.text in
       let are : AreLeft network w clocks faces printed left =
       record { text = prints.text; board = prints.board; parts = prints.parts } in
-      let cut : (old new : Files) → Holds cif chip old new → IsCutShort Stage old new printed =
+      let cut : (old new : Files) → Holds cif chip old new → IsCutShort Stage before after old new printed =
       λ old new holds. record {
         fault = tt;
         chip = chip;
         text = prints.text;
         shows = (refl, prints.board);
-        part = inr ((prints.count, prints.cut, refl), holds);
+        part = inr (why, (prints.count, prints.cut, refl), holds);
       } in
       by_err left result before after is (record {
         printed = printed;
         gained = prints.gained;
-        told = told_map (Holds cif chip) (λ old new. Given left (Err WriteFault) old new printed) before.files
-            after.files (λ old new holds. (cut old new holds, are)) stored;
+        told = told_map (Holds cif chip) (λ old new. Given left (Err WriteFault) before after old new printed)
+            before.files after.files (λ old new holds. (cut old new holds, are)) stored;
       })
 
   -- the file was stored, and the whole text printed
@@ -100,6 +99,6 @@ module _ (cif chip : List ℕ) (network : Network) (w : Wired) (clocks : ℕ) (f
       record {
         printed = text;
         gained = subst (λ t. WhereTold (Gains t) before.text after.text) whole prints.gained;
-        told = told_map (Holds cif chip) (λ old new. Given left (Ok u) old new text) before.files after.files
-            (λ old new holds. (done old new holds, are)) stored;
+        told = told_map (Holds cif chip) (λ old new. Given left (Ok u) before after old new text) before.files
+            after.files (λ old new holds. (done old new holds, are)) stored;
       }

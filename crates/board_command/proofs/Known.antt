@@ -10,6 +10,7 @@ use Rattle.headline.specs.Headline.{IsChipOf}
 use Rattle.chip_text.specs.Texts.{IsPlainChipOf}
 use Rattle.compile_command.proofs.Compiling.{compiled}
 use Rattle.source_files.proofs.Sources.{OneSource, one_program}
+use Rattle.outcome.specs.World.{World}
 use Rattle.outcome.specs.declared.halt.Halt.{Halt}
 use Rattle.outcome.specs.declared.halt.Halt.TheVariants.{Refused, ReadFault, WriteFault, NoMemory}
 use Rattle.stages.proofs.Ending.{ends_as}
@@ -87,25 +88,27 @@ module _ (lent : Lent) (source cif : List ℕ) (clocks : ℕ) (words : List (Lis
       unmoved printed left are none = are.parts
           ∙ ap (λ (t : List ℕ). faces_along known.wired 0 lent.faces (take (whole_lines t) (are.board).shown)) none
 
-      moves : (left : List Face) (result : Result (Unit {0}) Halt) (new : Files) (printed : List ℕ)
-          → Given cif chip known.network known.wired clocks lent.faces left result files new printed
+      moves : (left : List Face) (result : Result (Unit {0}) Halt) (before after : World) (new : Files)
+          (printed : List ℕ)
+          → Given cif chip known.network known.wired clocks lent.faces left result before after files new printed
           → Moves lent (bytes_of files source) words clocks left result printed
-      moves left (Ok v) new printed given = moved printed left given.1
-      moves left (Err (Refused broken)) new printed given = absurd (given.0).0
-      moves left (Err ReadFault) new printed given = unmoved printed left given.1 (given.0).1
-      moves left (Err WriteFault) new printed given = moved printed left given.1
-      moves left (Err NoMemory) new printed given = unmoved printed left given.1 (given.0).1
+      moves left (Ok v) before after new printed given = moved printed left given.1
+      moves left (Err (Refused broken)) before after new printed given = absurd (given.0).0
+      moves left (Err ReadFault) before after new printed given = unmoved printed left given.1 (given.0).1
+      moves left (Err WriteFault) before after new printed given = moved printed left given.1
+      moves left (Err NoMemory) before after new printed given = unmoved printed left given.1 (given.0).1
 
     -- from the chip's part to the whole
     pub plays_on : (held : Option Files) (known : Known lent source words chip held)
         → IfSome held (λ files. (work lent source cif clocks words).First files None) → (left : List Face)
-        (result : Result (Unit {0}) Halt)
+        (result : Result (Unit {0}) Halt) (before after : World)
         → IfSome held (λ files. (new : Files) (printed : List ℕ)
-        → Given cif chip known.network known.wired clocks lent.faces left result files new printed
-        → Boards lent source cif clocks words left result files new printed)
-    plays_on None known sound left result = tt
-    plays_on (Some files) known sound left result = λ new printed given. (
-      ends_as (work lent source cif clocks words) (Plays chip known.network known.wired clocks lent.faces) files new
-          printed (sound, shows_play files known) result given.0,
-      moves files known left result new printed given,
+        → Given cif chip known.network known.wired clocks lent.faces left result before after files new printed
+        → Boards lent source cif clocks words left result before after files new printed)
+    plays_on None known sound left result before after = tt
+    plays_on (Some files) known sound left result before after = λ new printed given. (
+      ends_as before after (work lent source cif clocks words)
+          (Plays chip known.network known.wired clocks lent.faces) files new printed (sound, shows_play files known)
+          result given.0,
+      moves files known left result before after new printed given,
     )

@@ -106,8 +106,8 @@ pub fn board<D: Depot, O: Sink>(
           names = map (λ p. string_bytes p.name) parts.old.items;
           faces = faces parts.old.items;
         } in
-        Leaves (λ old new printed.
-        Ends (work lent source.now cif.now clocks (map string_bytes words.now)) result old new printed
+        Leaves (λ before after old new printed.
+        Ends (work lent source.now cif.now clocks (map string_bytes words.now)) result before after old new printed
         × Moves lent (bytes_of old source.now) (map string_bytes words.now) clocks (faces parts.new.items) result
         printed) (world depot.old out.old) (world depot.new out.new) }
     ensures silent { IsQuiet result (O.held out.old) (O.held out.new) }

@@ -35,8 +35,8 @@ pub(crate) fn play<'a, D: Depot, O: Sink>(
           drives = (⟦<dyn Part as Part>⟧ p.part.vtable).driven_in;
           sees = (⟦<dyn Part as Part>⟧ p.part.vtable).after_seeing;
         } in f) in
-        Leaves (λ old new printed. Ends (second (Some cif.now) (Plays chip.now circuit.entry.network
-        circuit.entry.wired clocks (faces parts.old.items))) result old new printed
+        Leaves (λ before after old new printed. Ends (second (Some cif.now) (Plays chip.now circuit.entry.network
+        circuit.entry.wired clocks (faces parts.old.items))) result before after old new printed
         × AreLeft circuit.entry.network circuit.entry.wired clocks (faces parts.old.items) printed
         (faces parts.new.items)) (world depot.old out.old) (world depot.new out.new) }
     ensures silent { IsQuiet result (O.held out.old) (O.held out.new) }

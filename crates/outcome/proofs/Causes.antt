@@ -1,5 +1,5 @@
 -- Why no fault is told without its cause.
-use Rattle.std.proofs.Common.{◌≡◌, ◌≤◌, sym, subst, inl, inr, Result, Ok, Err, arith}
+use Rattle.std.proofs.Common.{◌≡◌, ◌≤◌, sym, subst, inl, inr, Result, Ok, Err}
 use Rattle.std.specs.Prelude.{IsErrAnd}
 use Rattle.outside.specs.Outside.{Rose}
 use Rattle.outcome.specs.World.{World, HasCauses}
@@ -19,11 +19,18 @@ pub print_failed : (result : Result (Unit {0}) Halt) (stray : Type 0) (before af
     → before.prints ≤ after.prints → Rose before.prints after.prints → HasCauses (status_of result) stray before after
 print_failed (Ok v) stray before after is r w p rose = absurd is
 print_failed (Err e) stray before after is r w p rose = subst
-    (λ h. HasCauses (status_of {T = Unit {0}} (Err h)) stray before after) (sym is) (r, (omega (arith, w)), p, inr rose)
+    (λ h. HasCauses (status_of {T = Unit {0}} (Err h)) stray before after) (sym is) (
+      r,
+      inr (record { later = p; failed = rose; writes = w }),
+    )
 
 pub store_failed : (result : Result (Unit {0}) Halt) (stray : Type 0) (before after : World)
     → IsErrAnd result (λ e. e ≡ WriteFault) → after.reads ≡ before.reads → before.writes ≤ after.writes
-    → Rose before.writes after.writes → after.prints ≡ before.prints → HasCauses (status_of result) stray before after
-store_failed (Ok v) stray before after is r w rose p = absurd is
-store_failed (Err e) stray before after is r w rose p = subst
-    (λ h. HasCauses (status_of {T = Unit {0}} (Err h)) stray before after) (sym is) (r, w, (omega (arith, p)), inl rose)
+    → Rose before.writes after.writes → after.prints ≡ before.prints → after.text ≡ before.text
+    → HasCauses (status_of result) stray before after
+store_failed (Ok v) stray before after is r w rose p t = absurd is
+store_failed (Err e) stray before after is r w rose p t = subst
+    (λ h. HasCauses (status_of {T = Unit {0}} (Err h)) stray before after) (sym is) (
+      r,
+      inl (record { later = w; failed = rose; prints = p; text = t }),
+    )

@@ -6,7 +6,8 @@ use Rattle.mp_base.specs.declared.refusal.Refusal.TheVariants as refusal
 use Rattle.outside.specs.declared.transfer.ReadError.{ReadError}
 use Rattle.outside.specs.declared.transfer.ReadError.TheVariants as read_error
 use Rattle.outcome.specs.Order.{Fault, Breaks, IsStrayBy}
-use Rattle.outcome.specs.Work.{Work, IsDone, IsCutShort}
+use Rattle.outcome.specs.Work.{Work, IsDone}
+use Rattle.outcome.specs.World.{World, IsCutShort}
 use Rattle.outcome.specs.declared.status.Status.{Status}
 use Rattle.outcome.specs.declared.status.Status.TheVariants as status
 use Rattle.outcome.specs.declared.halt.Halt.{Halt}
@@ -49,10 +50,10 @@ IsQuiet (Err WriteFault) before after = ⊤
 IsQuiet (Err NoMemory) before after = after ≡ before
 
 -- what work did by its end, where it has printed only its output
-abbrev pub Ends : {T : Type 0} → Work → Result T Halt → Files → Files → List ℕ → Type 0
-Ends work (Ok done) old new printed = IsDone work old new printed
-Ends work (Err (Refused broken)) old new printed = work.First old (Some (Breaks broken)) × (new ≡ old)
-    × (printed ≡ [])
-Ends work (Err ReadFault) old new printed = (new ≡ old) × (printed ≡ [])
-Ends work (Err WriteFault) old new printed = IsCutShort work old new printed
-Ends work (Err NoMemory) old new printed = (new ≡ old) × (printed ≡ [])
+abbrev pub Ends : {T : Type 0} → Work → Result T Halt → World → World → Files → Files → List ℕ → Type 0
+Ends work (Ok done) before after old new printed = IsDone work old new printed
+Ends work (Err (Refused broken)) before after old new printed =
+    work.First old (Some (Breaks broken)) × (new ≡ old) × (printed ≡ [])
+Ends work (Err ReadFault) before after old new printed = (new ≡ old) × (printed ≡ [])
+Ends work (Err WriteFault) before after old new printed = IsCutShort work before after old new printed
+Ends work (Err NoMemory) before after old new printed = (new ≡ old) × (printed ≡ [])

@@ -1,5 +1,5 @@
 -- A piece of work on some files, and what it leaves of its output.
-use Rattle.std.specs.Prelude.{◌≡◌, ◌⊎◌, ℕ, ◌<◌, List, [], length, take, Option, Some, None}
+use Rattle.std.specs.Prelude.{◌≡◌, ℕ, ◌<◌, List, length, take, Option, Some, None}
 use Rattle.outside.specs.Outside.{Files}
 use Rattle.outside.specs.Transfer.{Holds, HoldsPart}
 use Rattle.mp_base.specs.declared.refusal.Broken.{Broken}
@@ -32,16 +32,6 @@ pub record IsDone (work : Work) (old new : Files) (printed : List ℕ) : Type 0 
   pub chip : List ℕ
   pub shows : work.Shows old chip printed
   pub stored : Stores work.target chip old new
-
--- no rule is broken; a part of the file was stored and nothing printed, or the file was stored and a part of the text
--- printed
-pub record IsCutShort (work : Work) (old new : Files) (printed : List ℕ) : Type 0 where
-  pub fault : work.First old None
-  pub chip : List ℕ
-  pub text : List ℕ
-  pub shows : work.Shows old chip text
-  pub part : ((printed ≡ []) × StoresPart work.target chip old new)
-      ⊎ (IsPartOf printed text × Stores work.target chip old new)
 
 -- a rule is the first that is broken, and this is true of its line; no file changes
 pub record IsRefused (work : Work) (Line : Broken → Type 0) (old new : Files) : Type 0 where

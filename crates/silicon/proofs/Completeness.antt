@@ -3,7 +3,7 @@ use Rattle.std.proofs.Common.{◌≡◌, ◌⊎◌, ◌<◌, ℕ, List, refl, ap
 use Rattle.outside.specs.Outside.{Files, WhereTold, Rose}
 use Rattle.command_line.specs.Command.{Command}
 use Rattle.outcome.specs.Order.{Fault, Stray, Breaks}
-use Rattle.outcome.specs.World.{World}
+use Rattle.outcome.specs.World.{World, StoreFailed, PrintFailed}
 use Rattle.board.specs.Face.{Face}
 use Rattle.board_command.specs.Parts.{Lent}
 use Rattle.silicon.specs.Faults.{IsFirstFault, IsStrayFor}
@@ -23,8 +23,9 @@ OneFault = (lent : Lent) (command : Command) (files : Files) (a b : Option Fault
     → IsFirstFault lent command files b → a ≡ b
 
 -- a write or a print failed
-written : {R W P : Type 0} → W ⊎ P → R ⊎ W ⊎ P
-written w = inr w
+written : (before after : World) → StoreFailed before after ⊎ PrintFailed before after → AnyRose before after
+written before after (inl store) = inr (inl store.failed)
+written before after (inr print) = inr (inr print.failed)
 
 module _ (one : OneFault) (lent : Lent) (left : List Face) (command : Command) (before after : World)
     (old new : Files) (fault : Option Fault)
@@ -45,19 +46,19 @@ module _ (one : OneFault) (lent : Lent) (left : List Face) (command : Command) (
   pub owed : (status : Status) → IsRun lent left (Some command) status before after → before.files ≡ Some old
       → after.files ≡ Some new → (status ≡ status_by fault) ⊎ (status ≡ NoMemory)
   owed Done run e f =
-      let did = told_of (λ a b. Did lent left (Some command) Done a b run.content.printed) _ _ old new e f
+      let did = told_of (λ a b. Did lent left (Some command) Done before after a b run.content.printed) _ _ old new e f
       run.content.told in
       inl (by_fault None did.0.fault)
   owed Refused run e f =
-      let did = told_of (λ a b. Did lent left (Some command) Refused a b run.content.printed) _ _ old new e f
+      let did = told_of (λ a b. Did lent left (Some command) Refused before after a b run.content.printed) _ _ old new e f
       run.content.told in
       inl (by_fault (Some (Breaks did.0.broken)) did.0.fault)
   owed Usage run e f = absurd run.form
   owed ReadFault run e f =
-      let did = told_of (λ a b. Did lent left (Some command) ReadFault a b run.content.printed) _ _ old new e f
+      let did = told_of (λ a b. Did lent left (Some command) ReadFault before after a b run.content.printed) _ _ old new e f
       run.content.told in
       inl (by_stray run.causes.1 f did.0.0)
-  owed WriteFault run e f = absurd (still (written run.causes.3))
+  owed WriteFault run e f = absurd (still (written before after run.causes.1))
   owed NoMemory run e f = inr refl
 
 -- words in no form
@@ -67,7 +68,7 @@ no_form lent left Done before after run still = absurd run.form
 no_form lent left Refused before after run still = absurd run.form
 no_form lent left Usage before after run still = inl refl
 no_form lent left ReadFault before after run still = absurd run.form
-no_form lent left WriteFault before after run still = absurd (still (written run.causes.3))
+no_form lent left WriteFault before after run still = absurd (still (written before after run.causes.1))
 no_form lent left NoMemory before after run still = inr refl
 
 -- no file is stray where nothing is told
@@ -93,7 +94,7 @@ pub no_write_fault : (lent : Lent) (left : List Face) (words : Option Command) (
 no_write_fault lent left words status before after run still is =
     let failed : IsRun lent left words WriteFault before after =
     subst (λ s. IsRun lent left words s before after) is run in
-    still (written failed.causes.3)
+    still (written before after failed.causes.1)
 
 -- equal counts are not greater
 same_counts : (a b c d e f : ℕ) → b ≡ a → d ≡ c → f ≡ e → (a < b) ⊎ (c < d) ⊎ (e < f) → ⊥

@@ -1,12 +1,12 @@
 -- How the parts are left by a command, and by what is told of its end.
-use Rattle.std.proofs.Common.{◌≡◌, ℕ, List, refl, sym, subst, inl, inr, Option, Some, None, Result, Ok, Err}
+use Rattle.std.proofs.Common.{◌≡◌, ◌∙◌, ℕ, List, refl, sym, subst, inl, inr, Option, Some, None, Result, Ok, Err}
 use Rattle.outside.specs.Outside.{Files, WhereTold}
 use Rattle.mp_base.specs.declared.refusal.Broken.{Broken}
 use Rattle.outside.proofs.Told.{told_map}
 use Rattle.command_line.specs.Command.{Command, Trace, Compile, Replay, Sim, Net, Stats, Board, Make}
 use Rattle.outcome.specs.Order.{Breaks}
 use Rattle.outcome.specs.Line.{line_of}
-use Rattle.outcome.specs.World.{World, Leaves, DidWork, IsTold, whole, cut}
+use Rattle.outcome.specs.World.{World, HasCauses, Leaves, DidWork, IsTold, whole, cut}
 use Rattle.outcome.specs.Halt.{Ends}
 use Rattle.outcome.specs.declared.halt.Halt.{Halt}
 use Rattle.outcome.specs.declared.halt.Halt.TheVariants as halt
@@ -35,26 +35,26 @@ given_or (Err halt.WriteFault) p q = p
 given_or (Err halt.NoMemory) p q = q
 
 -- what was left, and what holds anyway
-leaves_and : (P Q : Files → Files → List ℕ → Type 0) (before after : World)
-    → ((old new : Files) (printed : List ℕ) → Q old new printed) → Leaves P before after
-    → Leaves (λ old new printed. P old new printed × Q old new printed) before after
+leaves_and : (P : World → World → Files → Files → List ℕ → Type 0) (Q : Files → Files → List ℕ → Type 0)
+    (before after : World) → ((old new : Files) (printed : List ℕ) → Q old new printed) → Leaves P before after
+    → Leaves (λ before after old new printed. P before after old new printed × Q old new printed) before after
 leaves_and P Q before after q leaves = record {
   printed = leaves.printed;
   gained = leaves.gained;
-  told = told_map (λ old new. P old new leaves.printed)
-      (λ old new. P old new leaves.printed × Q old new leaves.printed) before.files after.files
+  told = told_map (λ old new. P before after old new leaves.printed)
+      (λ old new. P before after old new leaves.printed × Q old new leaves.printed) before.files after.files
       (λ a b p. (p, q a b leaves.printed)) leaves.told;
 }
 
 -- what follows from what was left
-pub leaves_map : (P Q : Files → Files → List ℕ → Type 0) (before after : World)
-    → ((old new : Files) (printed : List ℕ) → P old new printed → Q old new printed) → Leaves P before after
-    → Leaves Q before after
+pub leaves_map : (P Q : World → World → Files → Files → List ℕ → Type 0) (before after : World)
+    → ((old new : Files) (printed : List ℕ) → P before after old new printed → Q before after old new printed)
+    → Leaves P before after → Leaves Q before after
 leaves_map P Q before after f leaves = record {
   printed = leaves.printed;
   gained = leaves.gained;
-  told = told_map (λ old new. P old new leaves.printed) (λ old new. Q old new leaves.printed) before.files after.files
-      (λ a b p. f a b leaves.printed p) leaves.told;
+  told = told_map (λ old new. P before after old new leaves.printed) (λ old new. Q before after old new leaves.printed)
+      before.files after.files (λ a b p. f a b leaves.printed p) leaves.told;
 }
 
 -- the command that is seen
@@ -96,24 +96,26 @@ module _ (lent : Lent) (left : List Face) (command : Command) where
       subst (λ r. Moved lent left command r old printed) (sym none.0) stay
 
   -- a refusal was told
-  pub leaves_refused : (broken : Broken) (result : Status) (before mid : World) (text : Option (List ℕ)) (after : World)
-      (s s' : ℕ) → Leaves (Ending {T = Unit {0}} lent left command (Err (halt.Refused broken))) before mid
-      → IsTold (line_of broken) mid.text after.text s s' result → after.files ≡ mid.files
-      → Leaves (Did lent left (Some command) result) before after
-  leaves_refused broken result before mid text after s s' leaves is same =
-      let End : Files → Files → List ℕ → Type 0 =
+  pub leaves_refused : (broken : Broken) (result : Status) (stray : Type 0) (before mid after : World)
+      → HasCauses Refused stray before mid
+      → Leaves (Ending {T = Unit {0}} lent left command (Err (halt.Refused broken))) before mid
+      → IsTold (line_of broken) mid.text after.text mid.prints after.prints result → after.files ≡ mid.files
+      → after.writes ≡ mid.writes → Leaves (Did lent left (Some command) result) before after
+  leaves_refused broken result stray before mid after none leaves is same w =
+      let End : World → World → Files → Files → List ℕ → Type 0 =
       Ends {T = Unit {0}} (work_of lent command) (Err (halt.Refused broken)) in
-      let Whole : Files → Files → List ℕ → Type 0 =
+      let Whole : World → World → Files → Files → List ℕ → Type 0 =
       Ending {T = Unit {0}} lent left command (Err (halt.Refused broken)) in
-      let first = leaves_told (work_of lent command) broken result before mid text after s s'
+      let first = leaves_told (work_of lent command) broken result before mid after none.2 (w ∙ none.1)
       (leaves_map Whole End before mid (λ old new printed p. p.0) leaves) is same in
-      let kept = told_map (λ old new. Whole old new leaves.printed)
+      let kept = told_map (λ old new. Whole before mid old new leaves.printed)
       (λ old new. Moved lent left command result old first.printed) before.files mid.files
-      (λ a b p. moved_none broken result mid.text after.text s s' a first.printed is (p.0).0 p.1) leaves.told in
+      (λ a b p. moved_none broken result mid.text after.text mid.prints after.prints a first.printed is (p.0).0 p.1)
+      leaves.told in
       record {
         printed = first.printed;
         gained = first.gained;
-        told = both_told (λ old new. DidWork (work_of lent command) result old new first.printed)
+        told = both_told (λ old new. DidWork (work_of lent command) result before after old new first.printed)
             (λ old new. Moved lent left command result old first.printed) before.files after.files first.told
             (subst (λ files. WhereTold (λ old new. Moved lent left command result old first.printed) before.files files)
             (sym same) kept);

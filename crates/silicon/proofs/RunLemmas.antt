@@ -1,9 +1,9 @@
 -- A run, from what its command did.
-use Rattle.std.proofs.Common.{◌≡◌, ℕ, List, [], refl, sym, subst, Option, Some, None}
+use Rattle.std.proofs.Common.{◌≡◌, ℕ, List, [], refl, sym, subst, inr, Option, Some, None}
 use Rattle.outside.specs.Outside.{Files, WhereTold, Gains}
 use Rattle.outside.proofs.Told.{told_map, keeps_same, gains_nothing}
 use Rattle.command_line.specs.Command.{Command}
-use Rattle.outcome.specs.World.{World, Leaves, IsSaid, whole, cut}
+use Rattle.outcome.specs.World.{World, HasCauses, Leaves, IsSaid, whole, cut}
 use Rattle.outcome.specs.declared.status.Status.{Status}
 use Rattle.outcome.specs.declared.status.Status.TheVariants.{Usage, NoMemory}
 use Rattle.board.specs.Face.{Face}
@@ -38,6 +38,16 @@ leaves_no_command lent left command result before after s s' none said same =
       told = subst (λ files. WhereTold (λ old new. new ≡ old) before.files files) (sym same) (keeps_same before.files);
     })
 
+-- no fault is told of faulty words without its cause
+pub causes_no_command : (stray : Type 0) (result : Status) (before after : World) → after.reads ≡ before.reads
+    → after.writes ≡ before.writes
+    → IsSaid Usage usage_line before.text after.text before.prints after.prints result
+    → HasCauses result stray before after
+causes_no_command stray result before after r w (whole is same said) = subst (λ s. HasCauses s stray before after)
+    (sym is) (r, w, same)
+causes_no_command stray result before after r w (cut is le rose part first said) = subst
+    (λ s. HasCauses s stray before after) (sym is) (r, inr (record { later = le; failed = rose; writes = w }))
+
 -- the usage line was told
 usage_told : (result : Status) (x y : Option (List ℕ)) (s s' : ℕ) → IsSaid Usage usage_line x y s s' result
     → TellsUsage None result x y
@@ -51,18 +61,18 @@ tells_usage command result x y s s' none said = subst (λ o. TellsUsage o result
     (usage_told result x y s s' said)
 
 -- memory was missing before anything was done
-unchanged : (lent : Lent) (command : Option Command) (files : Option Files)
-    → WhereTold (λ old new. Did lent lent.faces command NoMemory old new []) files files
-unchanged lent command None = tt
-unchanged lent None (Some files) = refl
-unchanged lent (Some command) (Some files) = ((refl, refl), refl)
+unchanged : (lent : Lent) (command : Option Command) (world : World) (files : Option Files)
+    → WhereTold (λ old new. Did lent lent.faces command NoMemory world world old new []) files files
+unchanged lent command world None = tt
+unchanged lent None world (Some files) = refl
+unchanged lent (Some command) world (Some files) = ((refl, refl), refl)
 
 pub leaves_nothing : (lent : Lent) (command : Option Command) (world : World)
     → Leaves (Did lent lent.faces command NoMemory) world world
 leaves_nothing lent command world = record {
   printed = [];
   gained = gains_nothing world.text;
-  told = unchanged lent command world.files;
+  told = unchanged lent command world world.files;
 }
 
 pub tells_nothing : (command : Option Command) (text : Option (List ℕ)) → TellsUsage command NoMemory text text

@@ -2,7 +2,7 @@
 use Rattle.std.specs.Prelude.{◌≡◌, ℕ, List, [], ◌∷◌, ◌++◌, ⊤, Option, Some, None, Result, codes, ◌≢◌}
 use Rattle.outside.specs.Outside.{Files, WhereTold, Keeps, Gains}
 use Rattle.command_line.specs.Command.{Command, Make}
-use Rattle.outcome.specs.World.{DidWork, GainsPart}
+use Rattle.outcome.specs.World.{World, DidWork, GainsPart}
 use Rattle.outcome.specs.Halt.{Ends}
 use Rattle.outcome.specs.declared.halt.Halt.{Halt}
 use Rattle.outcome.specs.declared.status.Status.{Status}
@@ -32,14 +32,17 @@ EndsMade (Some (Make number cif)) status = status ≢ Refused × status ≢ Read
 EndsMade words status = ⊤
 
 -- what a command did by its end, with the parts that were lent, which it left so
-abbrev pub Ending : {T : Type 0} → Lent → List Face → Command → Result T Halt → Files → Files → List ℕ → Type 0
-Ending lent left command result old new printed = Ends (work_of lent command) result old new printed
+abbrev pub Ending : {T : Type 0} → Lent → List Face → Command → Result T Halt → World → World → Files → Files → List ℕ
+    → Type 0
+Ending lent left command result before after old new printed =
+    Ends (work_of lent command) result before after old new printed
     × WhereGiven result (Moving lent left command old printed) (left ≡ lent.faces)
 
 -- what a run did with the parts that were lent, which it left so
-abbrev pub Did : Lent → List Face → Option Command → Status → Files → Files → List ℕ → Type 0
-Did lent left None status old new printed = new ≡ old
-Did lent left (Some command) status old new printed = DidWork (work_of lent command) status old new printed
+abbrev pub Did : Lent → List Face → Option Command → Status → World → World → Files → Files → List ℕ → Type 0
+Did lent left None status before after old new printed = new ≡ old
+Did lent left (Some command) status before after old new printed =
+    DidWork (work_of lent command) status before after old new printed
     × Moved lent left command status old printed
 
 -- for words in no form the usage line was printed

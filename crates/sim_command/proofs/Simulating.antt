@@ -199,16 +199,17 @@ module _ (cif stimulus : List ℕ) (net : Network) (given : Stimulus) (before af
     shows_simulation cif stimulus text net given end after.files set_up transcript,
   )
 
-  pub shown_leaves : (result : Result (Unit {0}) Halt) → Keeps before.files after.files → Shown result
-      → Leaves (Ends (work cif stimulus) result) before after
-  shown_leaves result kept (refused why broken is text prints) =
+  pub shown_leaves : (result : Result (Unit {0}) Halt) → Keeps before.files after.files → after.writes ≡ before.writes
+      → Shown result → Leaves (Ends (work cif stimulus) result) before after
+  shown_leaves result kept writes (refused why broken is text prints) =
       leaves_halted (work cif stimulus) (halt_of why) result before after before.reads after.reads is kept text
       (why_ends why broken)
-  shown_leaves (Ok v) kept (ran end text pads transcript taken cause cut) =
+  shown_leaves (Ok v) kept writes (ran end text pads transcript taken cause cut) =
       leaves_done (work cif stimulus) [] text v v before after after.files kept (finds end text pads transcript)
       (keeps_same after.files) taken
-  shown_leaves (Err halt) kept (ran end text pads transcript taken cause cut) =
-      leaves_cut (work cif stimulus) [] text halt (Err halt) before after after.files cut kept
+  shown_leaves (Err halt) kept writes (ran end text pads transcript taken cause cut) =
+      leaves_cut (work cif stimulus) [] text halt (Err halt) before after after.files cut
+      (record { later = cause.later; failed = cause.failed; writes = writes }) kept
       (finds end text pads transcript) (keeps_same after.files) taken
 
   pub shown_causes : (result : Result (Unit {0}) Halt) → after.writes ≡ before.writes → Shown result

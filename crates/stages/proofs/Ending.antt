@@ -4,16 +4,17 @@ use Rattle.std.proofs.Common.{◌∙◌}
 use Rattle.std.specs.Prelude.{IsErrAnd}
 use Rattle.outside.specs.Outside.{Files, Rose, WhereTold, Keeps, Gains}
 use Rattle.outcome.specs.Order.{Fault, IsStrayBy}
-use Rattle.outcome.specs.Work.{Work, IsCutShort}
-use Rattle.outcome.specs.World.{World, Leaves, HasCauses}
+use Rattle.outcome.specs.Work.{Work}
+use Rattle.outcome.specs.World.{World, Leaves, HasCauses, IsCutShort, StoreFailed, PrintFailed}
 use Rattle.outcome.specs.Halt.{Ends, EndsBy, status_of}
 use Rattle.outcome.specs.declared.halt.Halt.{Halt}
 use Rattle.outcome.specs.declared.halt.Halt.TheVariants.{Refused, ReadFault, WriteFault, NoMemory}
 use Rattle.stages.specs.Stages.{second, LeadsTo}
 
-module _ (work : Work) (Gives : List ℕ → List ℕ → Type 0) (files new : Files) (printed : List ℕ)
-    (leads : LeadsTo work Gives files) where
-  cut_short : IsCutShort (second work.target Gives) files new printed → IsCutShort work files new printed
+module _ (before after : World) (work : Work) (Gives : List ℕ → List ℕ → Type 0) (files new : Files)
+    (printed : List ℕ) (leads : LeadsTo work Gives files) where
+  cut_short : IsCutShort (second work.target Gives) before after files new printed
+      → IsCutShort work before after files new printed
   cut_short cut = record {
     fault = leads.0;
     chip = cut.chip;
@@ -24,7 +25,8 @@ module _ (work : Work) (Gives : List ℕ → List ℕ → Type 0) (files new : F
 
   -- work ends as its second stage does
   pub ends_as : {T : Type 0} (result : Result T Halt)
-      → Ends (second work.target Gives) result files new printed → Ends work result files new printed
+      → Ends (second work.target Gives) result before after files new printed
+      → Ends work result before after files new printed
   ends_as (Ok v) done = record {
     fault = leads.0;
     chip = done.chip;
@@ -35,6 +37,48 @@ module _ (work : Work) (Gives : List ℕ → List ℕ → Type 0) (files new : F
   ends_as (Err ReadFault) ends = ends
   ends_as (Err WriteFault) cut = cut_short cut
   ends_as (Err NoMemory) ends = ends
+
+-- nothing was printed, and no write and no print failed
+pub record OnlyReads (before middle : World) : Type 0 where
+  pub writes : middle.writes ≡ before.writes
+  pub prints : middle.prints ≡ before.prints
+  pub text : middle.text ≡ before.text
+
+-- what failed in a second stage failed in the work
+module _ (before middle after : World) (only : OnlyReads before middle) where
+  store_since : StoreFailed middle after → StoreFailed before after
+  store_since why = record {
+    later = subst (λ n. n ≤ after.writes) only.writes why.later;
+    failed = subst (λ n. Rose n after.writes) only.writes why.failed;
+    prints = why.prints ∙ only.prints;
+    text = why.text ∙ only.text;
+  }
+
+  print_since : PrintFailed middle after → PrintFailed before after
+  print_since why = record {
+    later = subst (λ n. n ≤ after.prints) only.prints why.later;
+    failed = subst (λ n. Rose n after.prints) only.prints why.failed;
+    writes = why.writes ∙ only.writes;
+  }
+
+  since : {A B C D : Type 0} → (StoreFailed middle after × A × B) ⊎ (PrintFailed middle after × C × D)
+      → (StoreFailed before after × A × B) ⊎ (PrintFailed before after × C × D)
+  since (inl (why, a, b)) = inl (store_since why, a, b)
+  since (inr (why, c, d)) = inr (print_since why, c, d)
+
+  pub ends_since : {T : Type 0} (work : Work) (files new : Files) (printed : List ℕ) (result : Result T Halt)
+      → Ends work result middle after files new printed → Ends work result before after files new printed
+  ends_since work files new printed (Ok v) done = done
+  ends_since work files new printed (Err (Refused broken)) ends = ends
+  ends_since work files new printed (Err ReadFault) ends = ends
+  ends_since work files new printed (Err WriteFault) cut = record {
+    fault = cut.fault;
+    chip = cut.chip;
+    text = cut.text;
+    shows = cut.shows;
+    part = since cut.part;
+  }
+  ends_since work files new printed (Err NoMemory) ends = ends
 
 -- what a second stage leaves of the files in the middle is said of those at entry
 module _ (P Q : Files → Files → List ℕ → Type 0) where
@@ -47,59 +91,61 @@ module _ (P Q : Files → Files → List ℕ → Type 0) where
   told_on printed (Some a) (Some b) (Some c) kept on told =
       subst (λ files. Q files c printed) kept (on c printed told)
 
-  pub leaves_on : (before middle after : World) → Keeps before.files middle.files → middle.text ≡ before.text
-      → IfSome middle.files (λ files. (new : Files) (printed : List ℕ) → P files new printed → Q files new printed)
-      → Leaves P middle after → Leaves Q before after
-  leaves_on before middle after kept same on left = record {
-    printed = left.printed;
-    gained = subst (λ text. WhereTold (Gains left.printed) text after.text) same left.gained;
-    told = told_on left.printed before.files middle.files after.files kept on left.told;
-  }
+pub leaves_on : (P Q : World → World → Files → Files → List ℕ → Type 0) (before middle after : World)
+    → Keeps before.files middle.files → middle.text ≡ before.text
+    → IfSome middle.files
+    (λ files. (new : Files) (printed : List ℕ) → P middle after files new printed → Q before after files new printed)
+    → Leaves P middle after → Leaves Q before after
+leaves_on P Q before middle after kept same on left = record {
+  printed = left.printed;
+  gained = subst (λ text. WhereTold (Gains left.printed) text after.text) same left.gained;
+  told = told_on (P middle after) (Q before after) left.printed before.files middle.files after.files kept on left.told;
+}
 
-if_leads : (work : Work) (Gives : List ℕ → List ℕ → Type 0) {T : Type 0} (result : Result T Halt)
-    (held : Option Files) → IfSome held (LeadsTo work Gives)
-    → IfSome held (λ files. (new : Files) (printed : List ℕ) → Ends (second work.target Gives) result files new printed
-    → Ends work result files new printed)
-if_leads work Gives result None leads = tt
-if_leads work Gives result (Some files) leads = λ new printed. ends_as work Gives files new printed leads result
+if_leads : (before middle after : World) → OnlyReads before middle → (work : Work) (Gives : List ℕ → List ℕ → Type 0)
+    {T : Type 0} (result : Result T Halt) (held : Option Files) → IfSome held (LeadsTo work Gives)
+    → IfSome held (λ files. (new : Files) (printed : List ℕ)
+    → Ends (second work.target Gives) result middle after files new printed
+    → Ends work result before after files new printed)
+if_leads before middle after only work Gives result None leads = tt
+if_leads before middle after only work Gives result (Some files) leads =
+    λ new printed ends. ends_since before middle after only work files new printed result
+    (ends_as middle after work Gives files new printed leads result ends)
 
 -- work leaves what its second stage leaves
 pub leaves_as : (work : Work) (Gives : List ℕ → List ℕ → Type 0) {T : Type 0} (result : Result T Halt)
-    (before middle after : World) → Keeps before.files middle.files → middle.text ≡ before.text
+    (before middle after : World) → Keeps before.files middle.files → OnlyReads before middle
     → IfSome middle.files (LeadsTo work Gives) → Leaves (Ends (second work.target Gives) result) middle after
     → Leaves (Ends work result) before after
-leaves_as work Gives result before middle after kept same leads left =
-    leaves_on (Ends (second work.target Gives) result) (Ends work result) before middle after kept same
-    (if_leads work Gives result middle.files leads) left
+leaves_as work Gives result before middle after kept only leads left =
+    leaves_on (Ends (second work.target Gives) result) (Ends work result) before middle after kept only.text
+    (if_leads before middle after only work Gives result middle.files leads) left
 
 -- a second stage's faults are those of the work
 pub causes_as : {T : Type 0} (result : Result T Halt) (stray : Type 0) (before middle after : World)
-    → middle.reads ≡ before.reads → middle.writes ≡ before.writes → middle.prints ≡ before.prints
+    → middle.reads ≡ before.reads → OnlyReads before middle
     → HasCauses (status_of result) ⊥ middle after → HasCauses (status_of result) stray before after
-causes_as (Ok v) stray before middle after r w p causes = (causes.0 ∙ r, causes.1 ∙ w, causes.2 ∙ p)
-causes_as (Err (Refused broken)) stray before middle after r w p causes = (causes.0 ∙ r, causes.1 ∙ w, causes.2 ∙ p)
-causes_as (Err NoMemory) stray before middle after r w p causes = (causes.0 ∙ r, causes.1 ∙ w, causes.2 ∙ p)
-causes_as (Err ReadFault) stray before middle after r w p causes = (
+causes_as (Ok v) stray before middle after r only causes =
+    (causes.0 ∙ r, causes.1 ∙ only.writes, causes.2 ∙ only.prints)
+causes_as (Err (Refused broken)) stray before middle after r only causes =
+    (causes.0 ∙ r, causes.1 ∙ only.writes, causes.2 ∙ only.prints)
+causes_as (Err NoMemory) stray before middle after r only causes =
+    (causes.0 ∙ r, causes.1 ∙ only.writes, causes.2 ∙ only.prints)
+causes_as (Err ReadFault) stray before middle after r only causes = (
   subst (λ n. n ≤ after.reads) r causes.0,
-  inl (subst (λ n. Rose n after.reads) r (only causes.1)),
-  causes.2 ∙ w,
-  causes.3 ∙ p,
+  inl (subst (λ n. Rose n after.reads) r (risen causes.1)),
+  causes.2 ∙ only.writes,
+  causes.3 ∙ only.prints,
 )
   where
-    only : Rose middle.reads after.reads ⊎ ⊥ → Rose middle.reads after.reads
-    only (inl rose) = rose
-    only (inr none) = absurd none
-causes_as (Err WriteFault) stray before middle after r w p causes = (
-  causes.0 ∙ r,
-  subst (λ n. n ≤ after.writes) w causes.1,
-  subst (λ n. n ≤ after.prints) p causes.2,
-  either causes.3,
-)
+    risen : Rose middle.reads after.reads ⊎ ⊥ → Rose middle.reads after.reads
+    risen (inl rose) = rose
+    risen (inr none) = absurd none
+causes_as (Err WriteFault) stray before middle after r only causes = (causes.0 ∙ r, either causes.1)
   where
-    either : Rose middle.writes after.writes ⊎ Rose middle.prints after.prints
-        → Rose before.writes after.writes ⊎ Rose before.prints after.prints
-    either (inl rose) = inl (subst (λ n. Rose n after.writes) w rose)
-    either (inr rose) = inr (subst (λ n. Rose n after.prints) p rose)
+    either : StoreFailed middle after ⊎ PrintFailed middle after → StoreFailed before after ⊎ PrintFailed before after
+    either (inl store) = inl (store_since before middle after only store)
+    either (inr print) = inr (print_since before middle after only print)
 
 -- work that ended in its first stage tells no fault without its cause
 pub causes_halted : (First : Files → Option Fault → Type 0) (held : Option Files) (halt : Halt)

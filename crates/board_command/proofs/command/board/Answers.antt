@@ -9,9 +9,8 @@ use Rattle.stages.proofs.Ending.{causes_as, causes_halted}
 use Rattle.board.specs.Face.{Face}
 use Rattle.board_command.specs.Linked.{OfLinks}
 use Rattle.board_command.specs.Parts.{Lent}
-use Rattle.board_command.specs.Shown.{Boards}
 use Rattle.board_command.specs.Work.{work}
-use Rattle.board_command.proofs.Endings.{leaves_since, rests, plays_halted}
+use Rattle.board_command.proofs.Endings.{plays_since, rests, plays_halted}
 use Rattle.board_command.proofs.command.board.Goals as goal
 
 pub returns-in_err-checked-clause-content : goal.returns-in_err-checked-clause-content
@@ -54,7 +53,8 @@ returns-clause-content g c =
     let source = c.args.source.now in
     let clocks : ℕ = c.args.clocks in
     let told = c.in_ok-checked.ensures in
-    leaves_since (Boards lent source c.args.cif.now clocks words left c.show-result.result) _ _ _ told.held refl
+    plays_since lent source c.args.cif.now clocks words left c.show-result.result _ _ _ told.held
+    (record { writes = told.writes; prints = refl; text = refl })
     (c.show-result.ensures.content source told.reason.1 told.source)
 
 pub returns-in_err-checked-clause-causes : goal.returns-in_err-checked-clause-causes
@@ -80,7 +80,8 @@ returns-in_err-checked-clause-causes g c =
 
 pub returns-clause-causes : goal.returns-clause-causes
 returns-clause-causes g c =
-    causes_as c.show-result.result _ _ _ _ c.in_ok-checked.ensures.reason.0 c.in_ok-checked.ensures.writes refl
+    causes_as c.show-result.result _ _ _ _ c.in_ok-checked.ensures.reason.0
+    (record { writes = c.in_ok-checked.ensures.writes; prints = refl; text = refl })
     c.show-result.ensures.causes
 
 pub returns-in_err-checked-clause-silent : goal.returns-in_err-checked-clause-silent

@@ -127,7 +127,7 @@ returns-clause-content g c = λ source fault is.
     (plays_on lent source cif clocks words chip c.boards_follow.ensures held known
     (if_second F G held None fault
     (links_fit lent.names words source checked.program checked.pads told.padded held is c.in_ok-links.links linked))
-    left c.play.result)
+    left c.play.result _ _)
     (rw c.deref-2.ensures.value at c.play.ensures.content)
 
 pub returns-in_err-links-clause-causes : goal.returns-in_err-links-clause-causes

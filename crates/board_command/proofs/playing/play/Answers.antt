@@ -1,6 +1,6 @@
-use Rattle.std.proofs.Common.{List, ℕ, Err, inl, map, refl, arith}
+use Rattle.std.proofs.Common.{List, ℕ, Err, map, refl}
 use Rattle.outcome.specs.declared.halt.Halt.TheVariants.{WriteFault}
-use Rattle.outcome.proofs.Causes.{print_failed}
+use Rattle.outcome.proofs.Causes.{store_failed, print_failed}
 use Rattle.outcome.proofs.Silence.{quiet_cut}
 use Rattle.board.specs.Face.{Face}
 use Rattle.board_command.proofs.Given.{stored_in_part, printed_in_part, printed_whole}
@@ -21,7 +21,12 @@ returns-in-Err-clause-content g c =
     let circuit = c.args.circuit in
     let some = c.boards_run.ensures circuit.network circuit.wired clocks faces c.requires.has_pads in
     stored_in_part c.args.cif.now c.args.chip.now circuit.network circuit.wired clocks faces some.0 some.1
-    (Err WriteFault) _ _ refl c.in-Err.ensures.cut refl
+    (Err WriteFault) _ _ refl (record {
+      later = c.in-Err.ensures.cause.later;
+      failed = c.in-Err.ensures.cause.failed;
+      prints = refl;
+      text = refl;
+    }) c.in-Err.ensures.cut
 
 pub returns-in_err-run-in-Ok-clause-content : goal.returns-in_err-run-in-Ok-clause-content
 returns-in_err-run-in-Ok-clause-content g c =
@@ -34,7 +39,11 @@ returns-in_err-run-in-Ok-clause-content g c =
     let circuit = c.args.circuit in
     printed_in_part c.args.cif.now c.args.chip.now circuit.network circuit.wired clocks faces
     c.in_err-run-in-Ok.field-0.0 _
-    c.from_residual.result _ _ c.from_residual.ensures.1 c.in-Ok.ensures.stored
+    c.from_residual.result _ _ c.from_residual.ensures.1 (record {
+      later = c.in_err-run-in-Ok.ensures.cause.later;
+      failed = c.in_err-run-in-Ok.ensures.cause.failed;
+      writes = c.in-Ok.ensures.cause.ok;
+    }) c.in-Ok.ensures.stored
     c.in_err-run-in-Ok.ensures.printed
 
 pub returns-in_ok-run-in-Ok-clause-content : goal.returns-in_ok-run-in-Ok-clause-content
@@ -52,7 +61,8 @@ returns-in_ok-run-in-Ok-clause-content g c =
 
 pub returns-in-Err-clause-causes : goal.returns-in-Err-clause-causes
 returns-in-Err-clause-causes g c =
-    (c.in-Err.ensures.reads, c.in-Err.ensures.cause.later, omega arith, inl c.in-Err.ensures.cause.failed)
+    store_failed (Err WriteFault) _ _ _ refl c.in-Err.ensures.reads c.in-Err.ensures.cause.later
+    c.in-Err.ensures.cause.failed refl refl
 
 pub returns-in-Err-clause-silent : goal.returns-in-Err-clause-silent
 returns-in-Err-clause-silent g c = tt

@@ -18,17 +18,26 @@ returns-in_err-store-clause-content g c =
     let made = c.in_ok-made.made in
     leaves_stored_in_part (work c.args.seed c.args.cif.now) made.chip.items made.text.items
     c.from_residual-in_err-store.result _ _ (g.D.Depot.held c.args.depot.now) c.from_residual-in_err-store.ensures.1
-    (keeps_same _)
+    (record {
+      later = c.in_err-store.ensures.cause.later;
+      failed = c.in_err-store.ensures.cause.failed;
+      prints = refl;
+      text = refl;
+    }) (keeps_same _)
     (finds_made c.args.seed c.args.cif.now made.chip.items made.text.items c.in_ok-made.ensures.compiled
     c.in_ok-made.ensures.run (g.D.Depot.held c.args.depot.now))
-    (rw c.deref.ensures.value at c.in_err-store.ensures.cut) refl
+    (rw c.deref.ensures.value at c.in_err-store.ensures.cut)
 
 pub returns-in_err-write_all-clause-content : goal.returns-in_err-write_all-clause-content
 returns-in_err-write_all-clause-content g c =
     let made = c.in_ok-made.made in
     leaves_cut (work c.args.seed c.args.cif.now) made.chip.items made.text.items c.in_err-write_all.field-0.0
     c.from_residual-in_err-write_all.result _ _ (g.D.Depot.held c.args.depot.now)
-    c.from_residual-in_err-write_all.ensures.1 (keeps_same _)
+    c.from_residual-in_err-write_all.ensures.1 (record {
+      later = c.in_err-write_all.ensures.cause.later;
+      failed = c.in_err-write_all.ensures.cause.failed;
+      writes = c.in_ok-store.ensures.cause.ok;
+    }) (keeps_same _)
     (finds_made c.args.seed c.args.cif.now made.chip.items made.text.items c.in_ok-made.ensures.compiled
     c.in_ok-made.ensures.run (g.D.Depot.held c.args.depot.now))
     (rw c.deref.ensures.value at c.in_ok-store.ensures.stored)
@@ -51,7 +60,7 @@ returns-in_err-made-clause-causes g c =
 pub returns-in_err-store-clause-causes : goal.returns-in_err-store-clause-causes
 returns-in_err-store-clause-causes g c =
     store_failed c.from_residual-in_err-store.result _ _ _ c.from_residual-in_err-store.ensures.1
-    c.in_err-store.ensures.reads c.in_err-store.ensures.cause.later c.in_err-store.ensures.cause.failed refl
+    c.in_err-store.ensures.reads c.in_err-store.ensures.cause.later c.in_err-store.ensures.cause.failed refl refl
 
 pub returns-in_err-write_all-clause-causes : goal.returns-in_err-write_all-clause-causes
 returns-in_err-write_all-clause-causes g c =

@@ -30,14 +30,16 @@ returns-clause-content g c =
     let source = c.args.source.now in
     let stimulus = c.args.stimulus.now in
     let cif = c.args.cif.now in
-    leaves_as (work source stimulus cif) (PlaysChipOf checked.program given) c.play-played.result _ _ _ told.held refl
+    leaves_as (work source stimulus cif) (PlaysChipOf checked.program given) c.play-played.result _ _ _ told.held
+    (record { writes = told.writes; prints = refl; text = refl })
     (leads source stimulus cif checked given told.padded (g.D.Depot.held c.prepare.new.depot) told.reason.1 told.source
     told.stimulus)
     c.play-played.ensures.content
 
 pub returns-clause-causes : goal.returns-clause-causes
 returns-clause-causes g c =
-    causes_as c.play-played.result _ _ _ _ c.in_ok-made.ensures.reason.0 c.in_ok-made.ensures.writes refl
+    causes_as c.play-played.result _ _ _ _ c.in_ok-made.ensures.reason.0
+    (record { writes = c.in_ok-made.ensures.writes; prints = refl; text = refl })
     c.play-played.ensures.causes
 
 pub returns-clause-silent : goal.returns-clause-silent

@@ -6,7 +6,7 @@ use Rattle.board_command.specs.Parts.{Lent}
 use Rattle.silicon.proofs.Moves.{keeps_all, keeps_command}
 use Rattle.command_line.specs.Command.{command_of, seen}
 use Rattle.silicon.proofs.RunLemmas.{leaves_command, leaves_no_command, leaves_nothing, tells_usage, tells_nothing}
-use Rattle.silicon.proofs.RunLemmas.{for_words_nothing}
+use Rattle.silicon.proofs.RunLemmas.{causes_no_command, for_words_nothing}
 use Rattle.silicon.proofs.Silence.{silent_said, spares_same, spares_command}
 use Rattle.silicon.specs.Faults.{target_for}
 use Rattle.silicon.proofs.Making.{made_words, wanting_made}
@@ -39,6 +39,10 @@ returns-in-Ok-None-clause-content g c =
     leaves_no_command lent _ (command_of c.args.words.now.items) c.say.result _ _ _ _
     ((rw c.in-Ok-None.field-0-is at c.in-Ok-None.ensures) ∙ ap command_of c.deref.ensures.value)
     (rw c.as_bytes.ensures.value at c.say.ensures) refl
+
+pub returns-in-Ok-None-clause-causes : goal.returns-in-Ok-None-clause-causes
+returns-in-Ok-None-clause-causes g c =
+    causes_no_command _ c.say.result _ _ refl refl (rw c.as_bytes.ensures.value at c.say.ensures)
 
 pub returns-in-Ok-None-clause-usage : goal.returns-in-Ok-None-clause-usage
 returns-in-Ok-None-clause-usage g c =

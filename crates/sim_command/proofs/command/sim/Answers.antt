@@ -27,7 +27,7 @@ returns-clause-content g c =
     c.args.depot.now c.args.out.now)
     (world_of g.D.Depot.held g.D.Depot.read_faults g.D.Depot.write_faults g.O.Sink.held g.O.Sink.faults
     c.prepare.new.depot c.show.new.out)
-    told.set_up told.reason c.show.result told.held c.show.ensures
+    told.set_up told.reason c.show.result told.held told.writes c.show.ensures
 
 pub returns-in_err-network-clause-silent : goal.returns-in_err-network-clause-silent
 returns-in_err-network-clause-silent g c = quiet_same c.from_residual.result _

@@ -34,7 +34,11 @@ returns-in_err-printed-clause-content g c = λ rest.
     let opened = c.in_ok-tracer.ensures in
     let prints = c.in_err-printed.ensures.printed in
     leaves_cut (second None (Traces program given)) [] prints.text c.in_err-printed.field-0.0
-    c.from_residual-in_err-printed.result _ _ rest.files c.from_residual-in_err-printed.ensures.1
+    c.from_residual-in_err-printed.result _ _ rest.files c.from_residual-in_err-printed.ensures.1 (record {
+      later = c.in_err-printed.ensures.cause.later;
+      failed = c.in_err-printed.ensures.cause.failed;
+      writes = refl;
+    })
     (keeps_same rest.files)
     (may_show program given prints.text (record {
       none = refl;
