@@ -2,4 +2,5 @@ pub mod Judging
 pub mod Given
 pub mod Known
 pub mod Endings
+pub mod Existence
 pub mod FirstFault

@@ -11,7 +11,7 @@ use Rattle.fabric.specs.Shape.{shape}
 use Rattle.slice_chip.specs.Ends.{IsMarkedAt}
 use Rattle.slice_chip.specs.Groups.{AreGroups}
 use Rattle.cif_emit.specs.Emittable.{IsEmittable, chip_rects}
-use Rattle.cif_emit.specs.Emitted.{IsEmitted}
+use Rattle.cif_emit.specs.Emitted.{AreCommandsOf, IsEmitted}
 use Rattle.compile_laws.specs.Laws.{IsSmallChipOf}
 use Rattle.path_plan.specs.declared.planning.Planned.{Planned}
 use Rattle.plan_stats.specs.Text.{stats_lines}
@@ -40,3 +40,8 @@ pub record IsStatsOf (p : Program) (text : List ℕ) : Type 0 where
   pub planned : Planned
   pub plans : IsPlanOf p planned
   pub line : text ≡ stats_lines (weight p) planned.columns planned.rows planned.groups
+
+-- the chip of a plan has commands, and their text is a chip of the program
+abbrev pub PlansMakeChips : Type 0
+PlansMakeChips = (p : Program) (planned : Planned) → IsPlanOf p planned
+    → (commands : List Command) × AreCommandsOf planned.chip commands × IsSmallChipOf p (file_text commands)

@@ -1,6 +1,7 @@
 //! The size of a program's chip, as text.
 #![tactic(auto)]
 
+pub mod laws;
 mod stats;
 mod text;
 

@@ -1,5 +1,6 @@
 pub mod RunLemmas
 pub mod FirstFault
+pub mod Existence
 pub mod Silence
 pub mod Completeness
 pub mod Moves

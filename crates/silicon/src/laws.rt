@@ -15,12 +15,12 @@ ghost use Rattle.silicon.specs.Faults.{IsFirstFault};
 ghost use Rattle.silicon.specs.Complete.{IsRun, AnyRose, AnyGreater, status_by};
 ghost use Rattle.silicon.specs.ReadBack.{CompiledFilesAreRead};
 
-use board_command::laws::{one_link_fault, plays_follow};
-use mask_files::laws::one_mask_fault;
+use board_command::laws::{a_link_fault, one_link_fault, plays_follow};
+use mask_files::laws::{a_mask_fault, one_mask_fault};
 use replay_command::laws::replays_follow as circuits_follow;
 use replay_run::laws::chips_run;
-use sim_command::laws::one_circuit_fault;
-use source_files::laws::one_fault;
+use sim_command::laws::{a_circuit_fault, one_circuit_fault};
+use source_files::laws::{a_fault, one_fault};
 
 /// A command has one first fault at most on the same files, with the same parts lent.
 pub fn one_first_fault()
@@ -33,16 +33,29 @@ pub fn one_first_fault()
     one_link_fault();
 }
 
+/// A command has a verdict on all files, whatever parts are lent: a first fault, or that there is none.
+pub fn a_first_fault()
+    ensures { (lent : Lent) (command : Command) (files : Files)
+        → (fault : Option Fault) × IsFirstFault lent command files fault }
+{
+    a_fault();
+    a_mask_fault();
+    a_circuit_fault();
+    a_link_fault();
+}
+
 /// What the clauses `words`, `causes` and `content` of a run leave no choice of. Where no count of faults rose, a
-/// command on files that are told ends as their first fault says, or wants memory: it is done where no rule is broken
-/// and each file is held, it refuses where a rule is broken first, and it tells a read fault where a file isn't held.
+/// command on files that are told has a verdict on them, and ends as this says, or wants memory: it is done where no rule
+/// is broken and each file is held, it refuses where a rule is broken first, and it tells a read fault where a file isn't
+/// held. On all files there is one verdict, and no other (`a_first_fault`, `one_first_fault`), so no files are left out.
 /// Words in no form end with the usage line, or want memory. Over files that aren't told no fault is answered, and
 /// where a count is greater a fault is.
 pub fn completeness()
     ensures owed { (lent : Lent) (left : List Face) (command : Command) (status : Status) (before after : World)
-        (old new : Files) (fault : Option Fault) → IsRun lent left (Some command) status before after
+        (old new : Files) → IsRun lent left (Some command) status before after
         → before.files ≡ Some old → after.files ≡ Some new → ¬ AnyRose before after
-        → IsFirstFault lent command old fault → (status ≡ status_by fault) ⊎ (status ≡ NoMemory) }
+        → (fault : Option Fault) × IsFirstFault lent command old fault
+        × ((status ≡ status_by fault) ⊎ (status ≡ NoMemory)) }
     ensures usage { (lent : Lent) (left : List Face) (status : Status) (before after : World)
         → IsRun lent left None status before after → ¬ AnyRose before after
         → (status ≡ Usage) ⊎ (status ≡ NoMemory) }
@@ -54,6 +67,7 @@ pub fn completeness()
         → (status ≡ ReadFault) ⊎ (status ≡ WriteFault) }
 {
     one_first_fault();
+    a_first_fault();
 }
 
 /// Of a file that `compile` wrote, or another command that writes the masks of a source, `net` finds no fault: it is no

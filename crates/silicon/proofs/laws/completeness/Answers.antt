@@ -2,8 +2,12 @@ use Rattle.silicon.proofs.Completeness as all
 use Rattle.silicon.proofs.laws.completeness.Goals as goal
 
 pub returns-clause-owed : goal.returns-clause-owed
-returns-clause-owed c = λ lent left command status before after old new fault run told kept still first.
-    all.owed c.one_first_fault.ensures lent left command before after old new fault first still status run told kept
+returns-clause-owed c = λ lent left command status before after old new run told kept still.
+    let (fault, first) = c.a_first_fault.ensures lent command old in (
+      fault,
+      first,
+      all.owed c.one_first_fault.ensures lent left command before after old new fault first still status run told kept,
+    )
 
 pub returns-clause-usage : goal.returns-clause-usage
 returns-clause-usage c = all.no_form
