@@ -11,13 +11,12 @@ use Rattle.lam_geom.specs.declared.rect.Rect.{Rect}
 use Rattle.cif_form.specs.declared.command.Command.{Command}
 use Rattle.cif_form.specs.declared.command.Command.TheVariants.{Finish}
 use Rattle.fabric.specs.declared.chip.Chip.{Chip}
-use Rattle.fabric.specs.declared.chip.ChipLabel.{ChipLabel}
 use Rattle.slice_symbols.specs.declared.bands.Bands.{Bands}
 use Rattle.slice_symbols.specs.declared.symbols.Symbol.{Symbol}
 use Rattle.slice_symbols.specs.Heights.{height_of, heights, raised}
 use Rattle.slice_symbols.specs.Drawn.{AreSymbolsOf, IsSymbolOf, drawn_rects, symbol_of, symbol_rects, symbols_of_both}
 use Rattle.cif_emit.specs.Commands.{layers, drawn_on, box_of, layer_commands, box_commands, symbol, call_at, label_of}
-use Rattle.cif_emit.specs.Commands.{symbol_commands, all_symbols, chip_commands}
+use Rattle.cif_emit.specs.Commands.{symbol_commands, all_symbols}
 use Rattle.cif_emit.specs.Emittable.{chip_rects}
 use Rattle.cif_emit.specs.Emitted.{AreCommandsOf}
 use Rattle.cif_emit.proofs.Drawn.{drawn, drawn_few}
