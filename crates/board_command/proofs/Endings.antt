@@ -9,6 +9,7 @@ use Rattle.outcome.specs.Halt.{EndsBy}
 use Rattle.outcome.specs.declared.halt.Halt.{Halt}
 use Rattle.outcome.specs.declared.halt.Halt.TheVariants.{Refused, ReadFault, WriteFault, NoMemory}
 use Rattle.stages.proofs.Ending.{OnlyReads, ends_since, leaves_on}
+use Rattle.board.specs.Face.{Face}
 use Rattle.board_command.specs.Parts.{Lent}
 use Rattle.board_command.specs.Work.{work, Rests}
 use Rattle.board_command.specs.Shown.{Boards}

@@ -61,7 +61,7 @@ returns-in_ok-run-in-Ok-clause-content g c =
 
 pub returns-in-Err-clause-causes : goal.returns-in-Err-clause-causes
 returns-in-Err-clause-causes g c =
-    store_failed (Err WriteFault) _ _ _ refl c.in-Err.ensures.reads c.in-Err.ensures.cause.later
+    store_failed (Err WriteFault) ⊥ _ _ refl c.in-Err.ensures.reads c.in-Err.ensures.cause.later
     c.in-Err.ensures.cause.failed refl refl
 
 pub returns-in-Err-clause-silent : goal.returns-in-Err-clause-silent

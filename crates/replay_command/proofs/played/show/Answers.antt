@@ -18,7 +18,7 @@ returns-in_err-run-in-Ok-clause-silent g c = quiet_cut c.from_residual.result _ 
 
 pub returns-in-Err-clause-causes : goal.returns-in-Err-clause-causes
 returns-in-Err-clause-causes g c =
-    store_failed (Err WriteFault) _ _ _ refl c.in-Err.ensures.reads c.in-Err.ensures.cause.later
+    store_failed (Err WriteFault) ⊥ _ _ refl c.in-Err.ensures.reads c.in-Err.ensures.cause.later
     c.in-Err.ensures.cause.failed refl refl
 
 pub returns-in_err-run-in-Ok-clause-causes : goal.returns-in_err-run-in-Ok-clause-causes
