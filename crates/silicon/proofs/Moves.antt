@@ -96,12 +96,12 @@ module _ (lent : Lent) (left : List Face) (command : Command) where
       subst (λ r. Moved lent left command r old printed) (sym none.0) stay
 
   -- a refusal was told
-  pub leaves_refused : (broken : Broken) (result : Status) (stray : Type 0) (before mid after : World)
-      → HasCauses Refused stray before mid
+  pub leaves_refused : (broken : Broken) (result : Status) (before mid after : World)
+      → HasCauses Refused ⊥ before mid
       → Leaves (Ending {T = Unit {0}} lent left command (Err (halt.Refused broken))) before mid
       → IsTold (line_of broken) mid.text after.text mid.prints after.prints result → after.files ≡ mid.files
       → after.writes ≡ mid.writes → Leaves (Did lent left (Some command) result) before after
-  leaves_refused broken result stray before mid after none leaves is same w =
+  leaves_refused broken result before mid after none leaves is same w =
       let End : World → World → Files → Files → List ℕ → Type 0 =
       Ends {T = Unit {0}} (work_of lent command) (Err (halt.Refused broken)) in
       let Whole : World → World → Files → Files → List ℕ → Type 0 =

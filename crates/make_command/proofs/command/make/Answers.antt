@@ -1,6 +1,7 @@
 use Rattle.std.proofs.Common.{refl}
 use Rattle.outside.proofs.Told.{keeps_same}
 use Rattle.outcome.specs.declared.halt.Halt.TheVariants.{NoMemory}
+use Rattle.outcome.specs.World.{World, StoreFailed, PrintFailed, world_of}
 use Rattle.outcome.proofs.EndsLemmas.{leaves_halted, leaves_done, leaves_cut, leaves_stored_in_part}
 use Rattle.outcome.proofs.Causes.{without_memory, store_failed, print_failed}
 use Rattle.outcome.proofs.Silence.{quiet_same, quiet_cut}
@@ -16,30 +17,40 @@ returns-in_err-made-clause-content g c =
 pub returns-in_err-store-clause-content : goal.returns-in_err-store-clause-content
 returns-in_err-store-clause-content g c =
     let made = c.in_ok-made.made in
-    leaves_stored_in_part (work c.args.seed c.args.cif.now) made.chip.items made.text.items
-    c.from_residual-in_err-store.result _ _ (g.D.Depot.held c.args.depot.now) c.from_residual-in_err-store.ensures.1
-    (record {
+    let before : World = world_of g.D.Depot.held g.D.Depot.read_faults g.D.Depot.write_faults g.O.Sink.held
+    g.O.Sink.faults c.args.depot.now c.args.out.now in
+    let after : World = world_of g.D.Depot.held g.D.Depot.read_faults g.D.Depot.write_faults g.O.Sink.held
+    g.O.Sink.faults c.store.new.depot c.args.out.now in
+    let why : StoreFailed before after = record {
       later = c.in_err-store.ensures.cause.later;
       failed = c.in_err-store.ensures.cause.failed;
       prints = refl;
       text = refl;
-    }) (keeps_same _)
+    } in
+    leaves_stored_in_part (work c.args.seed c.args.cif.now) made.chip.items made.text.items
+    c.from_residual-in_err-store.result before after before.files c.from_residual-in_err-store.ensures.1 why
+    (keeps_same before.files)
     (finds_made c.args.seed c.args.cif.now made.chip.items made.text.items c.in_ok-made.ensures.compiled
-    c.in_ok-made.ensures.run (g.D.Depot.held c.args.depot.now))
+    c.in_ok-made.ensures.run before.files)
     (rw c.deref.ensures.value at c.in_err-store.ensures.cut)
 
 pub returns-in_err-write_all-clause-content : goal.returns-in_err-write_all-clause-content
 returns-in_err-write_all-clause-content g c =
     let made = c.in_ok-made.made in
-    leaves_cut (work c.args.seed c.args.cif.now) made.chip.items made.text.items c.in_err-write_all.field-0.0
-    c.from_residual-in_err-write_all.result _ _ (g.D.Depot.held c.args.depot.now)
-    c.from_residual-in_err-write_all.ensures.1 (record {
+    let before : World = world_of g.D.Depot.held g.D.Depot.read_faults g.D.Depot.write_faults g.O.Sink.held
+    g.O.Sink.faults c.args.depot.now c.args.out.now in
+    let after : World = world_of g.D.Depot.held g.D.Depot.read_faults g.D.Depot.write_faults g.O.Sink.held
+    g.O.Sink.faults c.store.new.depot c.write_all.new.out in
+    let why : PrintFailed before after = record {
       later = c.in_err-write_all.ensures.cause.later;
       failed = c.in_err-write_all.ensures.cause.failed;
       writes = c.in_ok-store.ensures.cause.ok;
-    }) (keeps_same _)
+    } in
+    leaves_cut (work c.args.seed c.args.cif.now) made.chip.items made.text.items c.in_err-write_all.field-0.0
+    c.from_residual-in_err-write_all.result before after before.files
+    c.from_residual-in_err-write_all.ensures.1 why (keeps_same before.files)
     (finds_made c.args.seed c.args.cif.now made.chip.items made.text.items c.in_ok-made.ensures.compiled
-    c.in_ok-made.ensures.run (g.D.Depot.held c.args.depot.now))
+    c.in_ok-made.ensures.run before.files)
     (rw c.deref.ensures.value at c.in_ok-store.ensures.stored)
     (rw c.deref-2.ensures.value at c.in_err-write_all.ensures.taken)
 
