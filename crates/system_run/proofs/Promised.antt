@@ -93,13 +93,13 @@ spared : (target : Option (List ℕ)) (files : Option Files) (faults : ℕ) → 
 spared None files faults = (kept files, refl)
 spared (Some name) files faults = tt
 
-did_nothing : (words : Option Command) (files : Option Files)
-    → WhereTold (λ old new. Did own_parts own_parts.faces words NoMemory old new []) files files
-did_nothing words None = tt
-did_nothing None (Some files) = refl
-did_nothing (Some command) (Some files) = ((refl, refl), refl)
+did_nothing : (words : Option Command) (world : World) (files : Option Files)
+    → WhereTold (λ old new. Did own_parts own_parts.faces words NoMemory world world old new []) files files
+did_nothing words world None = tt
+did_nothing None world (Some files) = refl
+did_nothing (Some command) world (Some files) = ((refl, refl), refl)
 
-pub same_world : (words : Option Command) (world : World) → RunsWithParts words NoMemory world world
+same_world : (words : Option Command) (world : World) → RunsWithParts words NoMemory world world
 same_world words world = record {
   left = own_parts.faces;
   run = record {
@@ -108,7 +108,7 @@ same_world words world = record {
     content = record {
       printed = [];
       gained = gains_nothing world.text;
-      told = did_nothing words world.files;
+      told = did_nothing words world world.files;
     };
   };
   silent = refl;
