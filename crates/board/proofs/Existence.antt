@@ -134,5 +134,6 @@ verdict parts words pads = by (so_far parts pads words (length words) (omega ari
     by : Linked parts pads words (take (length words) words) ⊎ Breaking parts pads words
         → (first : Option Broken) × OfWords parts pads words first
     by (inl (links, are)) =
-        (None, (links, subst (λ some. AreLinks parts pads some links) (take_all (length words) words (omega arith)) are))
+        let all = take_all (length words) words (omega arith) in
+        (None, (links, subst (λ some. AreLinks parts pads some links) all are))
     by (inr (b, is)) = (Some b, is)

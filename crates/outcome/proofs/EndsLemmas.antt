@@ -107,7 +107,8 @@ module _ (work : Work) (chip text : List ℕ) where
     printed = take taken.count text;
     gained = taken.taken;
     told = subst
-        (λ res. WhereTold (λ old new. Ends work res before after old new (take taken.count text)) before.files after.files)
+        (λ res. WhereTold (λ old new. Ends work res before after old new (take taken.count text))
+        before.files after.files)
         (sym (err_is result WriteFault is))
         (cut_told before after why (take taken.count text) before.files m after.files kept finds
         (taken.count, taken.cut, refl) stored);

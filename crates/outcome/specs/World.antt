@@ -58,7 +58,8 @@ IsSilent ReadFault before after = after ≡ before
 IsSilent NoMemory before after = after ≡ before
 IsSilent status before after = ⊤
 
--- some bytes were printed, and where the files are told P holds of both worlds, the old and the new files and these bytes
+-- some bytes were printed, and where the files are told P holds of both worlds, of the old and the new files and of
+-- these bytes
 pub record Leaves (P : World → World → Files → Files → List ℕ → Type 0) (before after : World) : Type 0 where
   pub printed : List ℕ
   pub gained : WhereTold (Gains printed) before.text after.text

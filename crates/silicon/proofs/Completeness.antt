@@ -50,13 +50,13 @@ module _ (one : OneFault) (lent : Lent) (left : List Face) (command : Command) (
       run.content.told in
       inl (by_fault None did.0.fault)
   owed Refused run e f =
-      let did = told_of (λ a b. Did lent left (Some command) Refused before after a b run.content.printed) _ _ old new e f
-      run.content.told in
+      let did = told_of (λ a b. Did lent left (Some command) Refused before after a b run.content.printed) _ _ old new
+      e f run.content.told in
       inl (by_fault (Some (Breaks did.0.broken)) did.0.fault)
   owed Usage run e f = absurd run.form
   owed ReadFault run e f =
-      let did = told_of (λ a b. Did lent left (Some command) ReadFault before after a b run.content.printed) _ _ old new e f
-      run.content.told in
+      let did = told_of (λ a b. Did lent left (Some command) ReadFault before after a b run.content.printed) _ _ old new
+      e f run.content.told in
       inl (by_stray run.causes.1 f did.0.0)
   owed WriteFault run e f = absurd (still (written before after run.causes.1))
   owed NoMemory run e f = inr refl

@@ -45,11 +45,11 @@ pub fn a_first_fault()
 }
 
 /// What the clauses `words`, `causes` and `content` of a run leave no choice of. Where no count of faults rose, a
-/// command on files that are told has a verdict on them, and ends as this says, or wants memory: it is done where no rule
-/// is broken and each file is held, it refuses where a rule is broken first, and it tells a read fault where a file isn't
-/// held. On all files there is one verdict, and no other (`a_first_fault`, `one_first_fault`), so no files are left out.
-/// Words in no form end with the usage line, or want memory. Over files that aren't told no fault is answered, and
-/// where a count is greater a fault is.
+/// command on files that are told has a verdict on them, and ends as this says, or wants memory: it is done where no
+/// rule is broken and each file is held, it refuses where a rule is broken first, and it tells a read fault where a
+/// file isn't held. On all files there is one verdict, and no other (`a_first_fault`, `one_first_fault`), so no files
+/// are left out. Words in no form end with the usage line, or want memory. Over files that aren't told no fault is
+/// answered, and where a count is greater a fault is.
 pub fn completeness()
     ensures owed { (lent : Lent) (left : List Face) (command : Command) (status : Status) (before after : World)
         (old new : Files) → IsRun lent left (Some command) status before after

@@ -29,7 +29,8 @@ module _ (verdicts : Verdicts) where
       by : ((s : Stimulus) × IsStimulus text known s) ⊎ ((k : ℕ) × (at : Place) × IsFirst text known k at)
           → Exists (OfPads known text)
       by (inl (given, is)) = (None, (given, is))
-      by (inr (k, at, first)) = (Some (record { rule = record { family = S; number = k }; spot = At at }), (refl, first))
+      by (inr (k, at, first)) =
+          (Some (record { rule = record { family = S; number = k }; spot = At at }), (refl, first))
 
   some_of_stimulus : (source text : List ℕ) (program : Program) → IsSource source program
       → Exists (OfStimulus source text)

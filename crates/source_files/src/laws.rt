@@ -28,7 +28,8 @@ pub fn a_fault()
     ensures source { (source : List ℕ) (files : Files) → (fault : Option Fault) × SourceFault source files fault }
     ensures run { (source stimulus : List ℕ) (files : Files)
         → (fault : Option Fault) × RunFault source stimulus files fault }
-    ensures headed { (stimulus : List ℕ) (files : Files) → (fault : Option Fault) × PadsFault None stimulus files fault }
+    ensures headed { (stimulus : List ℕ) (files : Files)
+        → (fault : Option Fault) × PadsFault None stimulus files fault }
 {
     source_verdict();
     stimulus_verdict();

@@ -15,16 +15,16 @@ use Rattle.silicon.specs.Run.{IsForWords, Did, EndsMade, TellsUsage}
 use Rattle.system_run.specs.Parts.{own_parts, counter, shifter, echo, memory, RunsWithParts}
 
 -- four entries that were pushed one after another
-pub pushed : {X : Type 0} (none one two three all : List X) (a b c d : X) → all ≡ three ++ d ∷ [] → three ≡ two ++ c ∷ []
-    → two ≡ one ++ b ∷ [] → one ≡ none ++ a ∷ [] → none ≡ [] → all ≡ a ∷ b ∷ c ∷ d ∷ []
+pub pushed : {X : Type 0} (none one two three all : List X) (a b c d : X) → all ≡ three ++ d ∷ []
+    → three ≡ two ++ c ∷ [] → two ≡ one ++ b ∷ [] → one ≡ none ++ a ∷ [] → none ≡ [] → all ≡ a ∷ b ∷ c ∷ d ∷ []
 pushed none one two three all a b c d fourth third second first start =
     let r1 = first ∙ ap (λ l. l ++ a ∷ []) start in
     let r2 = second ∙ ap (λ l. l ++ b ∷ []) r1 in
     let r3 = third ∙ ap (λ l. l ++ c ∷ []) r2 in
     fourth ∙ ap (λ l. l ++ d ∷ []) r3
 
-pub four_parts : (a b c d : Face) (faces : List Face) → faces ≡ a ∷ b ∷ c ∷ d ∷ [] → a ≡ counter → b ≡ shifter → c ≡ echo
-    → d ≡ memory → faces ≡ own_parts.faces
+pub four_parts : (a b c d : Face) (faces : List Face) → faces ≡ a ∷ b ∷ c ∷ d ∷ [] → a ≡ counter → b ≡ shifter
+    → c ≡ echo → d ≡ memory → faces ≡ own_parts.faces
 four_parts a b c d faces are p q r s = cc
 
 abbrev lent_of : List (List ℕ) → List Face → Lent
@@ -34,12 +34,8 @@ pub same_lent : (names others : List (List ℕ)) (faces those : List Face) → n
     → lent_of names faces ≡ lent_of others those
 same_lent names others faces those p q = cc
 
-abbrev face_of : List ℕ → (List ℕ → ℕ) → (List ℕ → ℕ → List ℕ) → Face
+abbrev pub face_of : List ℕ → (List ℕ → ℕ) → (List ℕ → ℕ → List ℕ) → Face
 face_of s d n = record { state = s; drives = d; sees = n }
-
-pub same_face : (s t : List ℕ) (d e : List ℕ → ℕ) (n m : List ℕ → ℕ → List ℕ) → s ≡ t → d ≡ e → n ≡ m
-    → face_of s d n ≡ face_of t e m
-same_face s t d e n m p q r = cc
 
 pub of_lent : (lent : Lent) (left : List Face) (words : Option Command) (status : Status) (before after : World)
     → IsForWords words status → HasCauses status (IsStrayFor lent words after.files) before after

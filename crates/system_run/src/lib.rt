@@ -81,7 +81,8 @@ fn run_with_made<D: Depot, O: Sink>(
 ) -> Result<Status, AllocError>
     ensures { let world = world_of D.held D.read_faults D.write_faults O.held O.faults in
         MatchResult result
-        (λ status. RunsWithParts (command_of words.now.items) status (world depot.old out.old) (world depot.new out.new))
+        (λ status. RunsWithParts (command_of words.now.items) status
+        (world depot.old out.old) (world depot.new out.new))
         (λ _. world depot.new out.new ≡ world depot.old out.old) }
 {
     let mut parts = Vec::new(alloc);

@@ -50,7 +50,8 @@ returns-clause-content g c =
     let chip = c.in_ok-chip.chip.items in
     let held = g.D.Depot.held c.args.depot.now in
     leaves_as (second (Some c.args.cif.now) (PlaysChipOf program given)) (Plays chip given) c.show.result _ _ _
-    (keeps_same held) (record { writes = refl; prints = refl; text = refl }) (of_all (tt, of_chip program given chip c.in_ok-chip.ensures) held)
+    (keeps_same held) (record { writes = refl; prints = refl; text = refl })
+    (of_all (tt, of_chip program given chip c.in_ok-chip.ensures) held)
     (rw (c.deref-2.ensures.value, c.in_ok-circuit.ensures.given) at c.show.ensures.content)
 
 pub returns-in_err-chip-clause-causes : goal.returns-in_err-chip-clause-causes

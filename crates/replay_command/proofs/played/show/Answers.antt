@@ -36,7 +36,8 @@ returns-in-Err-clause-content g c =
     let given = c.args.circuit.given in
     let run = a_replay c.transcripts_exist.ensures.exist c.args.circuit.network given c.requires.has_pads in
     let held = g.D.Depot.held c.args.depot.now in
-    leaves_stored_in_part (second (Some c.args.cif.now) (Plays chip given)) chip run.0 (Err WriteFault) _ _ held refl (record {
+    leaves_stored_in_part (second (Some c.args.cif.now) (Plays chip given)) chip run.0 (Err WriteFault) _ _ held refl
+    (record {
       later = c.in-Err.ensures.cause.later;
       failed = c.in-Err.ensures.cause.failed;
       prints = refl;

@@ -36,7 +36,8 @@ returns-clause-content g c =
     let stimulus = c.args.stimulus.now in
     let held = g.D.Depot.held c.prepare.new.depot in
     leaves_as (work source stimulus) (Traces made.checked.program made.stimulus) c.show-shown.result _ _ _ told.held
-    (record { writes = told.writes; prints = refl; text = refl }) (leads source stimulus made.checked made.stimulus told.padded held told.reason.1 told.source told.stimulus)
+    (record { writes = told.writes; prints = refl; text = refl })
+    (leads source stimulus made.checked made.stimulus told.padded held told.reason.1 told.source told.stimulus)
     (c.show-shown.ensures.content (world_of g.D.Depot.held g.D.Depot.read_faults g.D.Depot.write_faults g.O.Sink.held
     g.O.Sink.faults c.prepare.new.depot c.args.out.now))
 
