@@ -56,7 +56,7 @@ use Rattle.slice_chip.proofs.TapsStand as stand
 -- ---- how a column comes to a list
 
 -- three segments stand behind those of nets, one for each phase
-phase_of : (k n : ℕ) → n ≤ k → k < n + 3 → (ph : Phase) × (n + phase_number ph ≡ k)
+pub phase_of : (k n : ℕ) → n ≤ k → k < n + 3 → (ph : Phase) × (n + phase_number ph ≡ k)
 phase_of k n h lt = elim (cases_eq k n) [
   | inl e ↦ (A, (let f : n + 0 ≡ k = omega (arith, e) in f))
   | inr a ↦ elim (cases_eq k (n + 1)) [
@@ -224,6 +224,12 @@ module _ (p : Path) (ready : IsPlaceable p) (control slices : Tracks) (control_t
     own_tie b n (Some (Gate ins)) le h lt e = gate_tie b n ins le h
     own_tie b n (Some (Latch ph None)) le h lt e = absurd ((ready.path).fed b n ph h)
     own_tie b n (Some (Latch ph (Some d))) le h lt e = latch_tie b n ph d le h
+
+    -- the tie of a net with a column of its own
+    pub homed_tie : (b n : ℕ) → b ≤ p.width → n < length (parts p b) → (columns_of p b).homed n ≡ true
+        → (tie : Tie (Wire Across)) × PathTie p stub tie × ((m tie).column ≡ home (columns_of p b) n)
+    homed_tie b n le lt e =
+        let t = own_tie b n (slice_get (parts p b) n) le refl lt e in (t.tie, t.is, t.column)
 
     -- ---- the columns of readers
 

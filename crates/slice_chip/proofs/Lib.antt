@@ -6,5 +6,6 @@ pub mod SlicedDraws
 pub mod SlicedCounts
 pub mod InOrder
 pub mod EndsMarked
+pub mod ColumnsUsed
 pub mod NoUnder
 pub mod Grouped

@@ -3,4 +3,5 @@ pub mod Drawn
 pub mod Sizes
 pub mod Order
 pub mod Ends
+pub mod Columns
 pub mod Groups

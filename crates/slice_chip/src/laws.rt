@@ -1,5 +1,6 @@
 //! Laws: a call of one does nothing, and tells the caller's proof what it ensures.
 
+ghost use Rattle.slice_chip.specs.Columns.{ColumnsAreUsed};
 ghost use Rattle.slice_chip.specs.Drawn.{SlicedChipsDraw};
 ghost use Rattle.slice_chip.specs.Ends.{EndsAreMarked};
 ghost use Rattle.slice_chip.specs.Groups.{SlicedHasGroups};
@@ -45,6 +46,12 @@ pub fn segments_in_order()
 /// The first and the last column of each segment of a path's fabric carry a mark on it.
 pub fn ends_are_marked()
     ensures { EndsAreMarked }
+{}
+
+/// Where a path has a slice, a line stands in each column of its fabric but the first and the last, which are the trunks
+/// of ground and power.
+pub fn columns_are_used()
+    ensures { ColumnsAreUsed }
 {}
 
 /// Nothing of a path's fabric crosses under the trunk of ground.
