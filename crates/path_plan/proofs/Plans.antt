@@ -21,6 +21,7 @@ use Rattle.rtl_form.specs.Sound.{IsSound}
 use Rattle.path_form.specs.declared.path.DataPath.{DataPath}
 use Rattle.path_values.specs.Allocated.{AllocatedRealizes}
 use Rattle.path_values.specs.Realizing.{RealizedShows}
+use Rattle.slice_chip.specs.Columns.{ColumnsAreUsed, IsUsed}
 use Rattle.slice_chip.specs.Ends.{EndsAreMarked, IsMarkedAt}
 use Rattle.slice_chip.specs.Groups.{AreGroups, SlicedHasGroups}
 use Rattle.slice_chip.specs.Sizes.{RectanglesAreFew, SlicedHasNoUnder, SlicedIsSmall}
@@ -59,6 +60,10 @@ module _ (r : Rtl) (p : DataPath) (stands : IsPathFor r p) (control : IsNet p.co
     columns_few : SlicedIsSmall → f.columns ≤ cost r + 8
     columns_few law = (law (cost r) p f stands.within stands.narrow laid.sliced).columns
 
+    columns_used : IsSound r → ColumnsAreUsed → IsUsed f
+    columns_used sound law =
+        law p control slices (let one = sound.width.0 in omega (arith, one, width_is)) f laid.sliced lawful
+
     extent : SlicedIsSmall → SlicedHasNoUnder → SmallFabrics
         → IsAtMost (covered (shape f)) (most_wide (cost r)) (most_high (cost r) r.width)
     extent is_small bare bounds =
@@ -95,10 +100,10 @@ module _ (r : Rtl) (p : DataPath) (stands : IsPathFor r p) (control : IsNet p.co
               let pads = pads_cost r sound in
               omega (arith, same, most, pads)
 
-      pub measured : SlicedIsSmall → SlicedHasGroups → EndsAreMarked → (columns rows : ℕ) → columns ≡ f.columns
-          → rows ≡ sum f.rows
+      pub measured : IsSound r → SlicedIsSmall → SlicedHasGroups → EndsAreMarked → ColumnsAreUsed → (columns rows : ℕ)
+          → columns ≡ f.columns → rows ≡ sum f.rows
           → IsMeasured r (record { chip = chip; columns = columns; rows = rows; groups = groups })
-      measured is_small grouped marked columns rows columns_are rows_are = record {
+      measured sound is_small grouped marked used columns rows columns_are rows_are = record {
         fabric = subst IsFabric (sym chip_for.fabric) lawful;
         alone = chip_for.alone ∙ ap shape (sym chip_for.fabric);
         columns = columns_are ∙ ap (λ (f : Plan). f.columns) (sym chip_for.fabric);
@@ -108,6 +113,7 @@ module _ (r : Rtl) (p : DataPath) (stands : IsPathFor r p) (control : IsNet p.co
         alike = groups_alike;
         rows = rows_are ∙ rows_sum;
         narrow = let c = columns_few is_small in omega (arith, c, columns_are);
+        used = subst IsUsed (sym chip_for.fabric) (columns_used sound used);
         ends = subst
             (λ (f : Plan). (s : Segment) → Contains f.segments s → IsMarkedAt f s s.first × IsMarkedAt f s s.last)
             (sym chip_for.fabric) (marked p control slices f laid.sliced lawful);

@@ -20,7 +20,8 @@ use path_form::DataPath;
 use path_values::laws::{allocated_paths_realize, realized_paths_show};
 use rtl_form::Rtl;
 use slice_chip::laws::{
-    ends_are_marked, rectangles_are_few, sliced_has_groups, sliced_has_no_under, sliced_is_small,
+    columns_are_used, ends_are_marked, rectangles_are_few, sliced_has_groups, sliced_has_no_under,
+    sliced_is_small,
 };
 use std::alloc::Global;
 use track_assign::Tracks;
@@ -51,7 +52,8 @@ fn rows_of(fabric: &Fabric) -> u32
 /// their pads once, in order, at whatever offsets its labels stand it breaks no rule of masks, and each network that
 /// its rectangles draw follows the transfers, from every charge. It has at most 100 (cost + 8) (word length + 1)
 /// rectangles and 64 cost + 5 labels, and can be written as commands. It has at most cost + 8 columns, whatever the
-/// length of words, and one band for each bit beside that of the control.
+/// length of words, each but the trunks of ground and power with a line, and one band for each bit beside that of the
+/// control.
 ///
 /// # Errors
 ///
@@ -82,6 +84,7 @@ pub fn planned_of(
     sliced_has_no_under();
     sliced_has_groups();
     ends_are_marked();
+    columns_are_used();
     small_fabrics_are_small();
     channels_are_sized();
     // What every net and every fabric keeps.

@@ -23,8 +23,9 @@ pub returns-clause-measured : goal.returns-clause-measured
 returns-clause-measured c =
     measured c.args.rtl.now c.args.path.now c.requires.path c.len-control.ensures.shape c.len-slices.ensures.shape
     c.args.fabric c.conditions.ensures.met c.args.groups c.requires.laid c.in_ok-chip.chip c.in_ok-chip.ensures.chip
-    c.sliced_is_small.ensures c.sliced_has_groups.ensures c.ends_are_marked.ensures c.columns-columns.result
-    c.rows_of-rows.result c.columns-columns.ensures c.rows_of-rows.ensures
+    c.requires.sound c.sliced_is_small.ensures c.sliced_has_groups.ensures c.ends_are_marked.ensures
+    c.columns_are_used.ensures c.columns-columns.result c.rows_of-rows.result c.columns-columns.ensures
+    c.rows_of-rows.ensures
 
 pub returns-clause-bounded : goal.returns-clause-bounded
 returns-clause-bounded c =
