@@ -23,6 +23,7 @@ plan_of p r planned make same plan bounded emittable measured = record {
   alone = measured.alone;
   columns = measured.columns;
   narrow = let n = measured.narrow in let c = same.cost in omega (arith, n, c);
+  used = measured.used;
   groups = measured.groups;
   control = measured.control;
   slice = measured.slice;

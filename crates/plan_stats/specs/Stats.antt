@@ -8,6 +8,7 @@ use Rattle.track_assign.specs.declared.packing.Tracks.{Tracks}
 use Rattle.fabric.specs.declared.thing.Segment.{Segment}
 use Rattle.fabric.specs.Plan.{IsFabric}
 use Rattle.fabric.specs.Shape.{shape}
+use Rattle.slice_chip.specs.Columns.{IsUsed}
 use Rattle.slice_chip.specs.Ends.{IsMarkedAt}
 use Rattle.slice_chip.specs.Groups.{AreGroups}
 use Rattle.cif_emit.specs.Emittable.{IsEmittable, chip_rects}
@@ -18,7 +19,8 @@ use Rattle.plan_stats.specs.Text.{stats_lines}
 
 -- The plan is of a chip of the program: it can be written as commands, and those that draw it have a text that is one.
 -- The chip draws its fabric and nothing else, and the plan's numbers are the fabric's, which has at most so many
--- columns, a group of tracks for the control and the same one for each bit, and no segment longer than its marks.
+-- columns, in each but the trunks of ground and power some line, a group of tracks for the control and the same one for
+-- each bit, and no segment longer than its marks.
 pub record IsPlanOf (p : Program) (planned : Planned) : Type 0 where
   pub emittable : IsEmittable (chip_rects planned.chip) (planned.chip).labels
   pub makes : (commands : List Command) → IsEmitted (chip_rects planned.chip) (planned.chip).labels commands
@@ -27,6 +29,7 @@ pub record IsPlanOf (p : Program) (planned : Planned) : Type 0 where
   pub alone : chip_rects planned.chip ≡ shape (planned.chip).fabric
   pub columns : planned.columns ≡ (planned.chip).fabric.columns
   pub narrow : planned.columns ≤ weight p + 8
+  pub used : IsUsed (planned.chip).fabric
   pub groups : AreGroups (planned.chip).fabric planned.groups
   pub control : Tracks
   pub slice : Tracks

@@ -48,8 +48,8 @@ pub fn ends_are_marked()
     ensures { EndsAreMarked }
 {}
 
-/// Where a path has a slice, a line stands in each column of its fabric but the first and the last, which are the trunks
-/// of ground and power.
+/// Where a path has a slice, a line stands in each column of its fabric but the first and the last, which are the
+/// trunks of ground and power.
 pub fn columns_are_used()
     ensures { ColumnsAreUsed }
 {}
