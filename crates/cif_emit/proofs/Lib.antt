@@ -1,3 +1,4 @@
+pub mod Bands
 pub mod Offsets
 pub mod Drawn
 pub mod Painted

@@ -19,7 +19,7 @@ use Rattle.cif_form.specs.Readers.{box_at, box_sized, box_long, round_of, wire_o
 use Rattle.cif_form.specs.Readers.{start_of, definition_from, layer_named, layer_from, user_of, command_from}
 use Rattle.cif_form.proofs.Numbers.{Finds, finds_both, Stops, integer_reads, integer_follows, separator_read, stops_at}
 use Rattle.cif_form.proofs.Numbers.{point_reads, point_follows, separator_follows}
-use Rattle.cif_form.proofs.Parts.{Ends, ends_stop, ends_follow, blanks_past, tail_left, tail_found, path_reads}
+use Rattle.cif_form.proofs.Parts.{Ends, byte_and, ends_stop, ends_follow, blanks_past, tail_left, tail_found, path_reads}
 use Rattle.cif_form.proofs.Parts.{path_size, turns_read, turns_stop, turns_size, name_reads, name_past, comment_reads}
 
 -- ---- the pieces, each with a function of what it finds
@@ -103,17 +103,13 @@ named name rest h =
     let b : leb (length name) 4 ≡ true = grind (arith, h.1) in
     rw (a, b, layer_named) refl
 
--- the first byte of a text
-first : (b : ℕ) (text byte back rest : List ℕ) → text ≡ byte ++ back → Byte b byte → text ++ rest ≡ b ∷ (back ++ rest)
-first b text byte back rest e h = ap (λ t. t ++ rest) (e ∙ ap (λ t. t ++ back) h)
-
 -- what follows a `D` and blanks
 after_d : (b : ℕ) (text blanks more byte back rest : List ℕ) → past_blanks (b ∷ (back ++ rest)) ≡ b ∷ (back ++ rest)
     → text ≡ blanks ++ more → Blanks blanks
     → more ≡ byte ++ back → Byte b byte → past_blanks (text ++ rest) ≡ b ∷ (back ++ rest)
 after_d b text blanks more byte back rest p e h f k =
     ap (λ t. past_blanks (t ++ rest)) e ∙ ap past_blanks (append_assoc blanks more rest)
-    ∙ blanks_past blanks (more ++ rest) h ∙ ap past_blanks (first b more byte back rest f k) ∙ p
+    ∙ blanks_past blanks (more ++ rest) h ∙ ap past_blanks (byte_and b more byte back rest f k) ∙ p
 
 -- a command's end: of a user command it is the semicolon itself
 abbrev pub EndsAfter : Command → List ℕ → Type 0
@@ -123,7 +119,7 @@ EndsAfter c rest = Ends rest
 pub command_reads : (c : Command) (front rest : List ℕ) → Spells c front → EndsAfter c rest
     → Finds command_from c front rest
 command_reads (Polygon ps) front rest (byte, back, f, h, k) e =
-    ap command_from (first 80 front byte back rest f h)
+    ap command_from (byte_and 80 front byte back rest f h)
     ∙ finished path_here Polygon ps back rest (path_here_reads ps back rest k e)
 command_reads (Box long wide c d) front rest (
   byte,
@@ -132,7 +128,7 @@ command_reads (Box long wide c d) front rest (
   h,
   (fl, more, g, hl, (sep, more', g', hs, (fw, more'', g'', hw, (sep', more3, g3, hs', (fc, fd, g4, hc, hd))))),
 ) e =
-    ap command_from (first 66 front byte back rest f h)
+    ap command_from (byte_and 66 front byte back rest f h)
     ∙ finds_both integer_from box_long long (Box long wide c d) back fl more rest g
     (integer_reads long fl (more ++ rest) hl (stops_before more sep more' rest g' hs))
     (separated (and_then integer_from (box_sized long)) (Box long wide c d) more sep more' rest g' hs
@@ -144,13 +140,13 @@ command_reads (Box long wide c d) front rest (
     (finished (tail_from right (then_separator point_from)) (Box long wide c) d fd rest
     (direction_reads d fd rest hd e))))))
 command_reads (Round d c) front rest (byte, back, f, h, (fd, more, g, hd, (sep, fc, g', hs, hc))) e =
-    ap command_from (first 82 front byte back rest f h)
+    ap command_from (byte_and 82 front byte back rest f h)
     ∙ finds_both integer_from round_of d (Round d c) back fd more rest g
     (integer_reads d fd (more ++ rest) hd (stops_before more sep fc rest g' hs))
     (separated (and_then point_from (gives (Round d))) (Round d c) more sep fc rest g' hs
     (finished point_from (Round d) c fc rest (point_reads c fc rest hc (ends_stop rest e))))
 command_reads (Wire w ps) front rest (byte, back, f, h, (fw, more, g, hw, (sep, fp, g', hs, hp))) e =
-    ap command_from (first 87 front byte back rest f h)
+    ap command_from (byte_and 87 front byte back rest f h)
     ∙ finds_both integer_from wire_of w (Wire w ps) back fw more rest g
     (integer_reads w fw (more ++ rest) hw (stops_before more sep fp rest g' hs))
     (separated (and_then path_here (gives (Wire w))) (Wire w ps) more sep fp rest g' hs
@@ -159,25 +155,25 @@ command_reads (Layer name) front rest (byte, back, f, h, (bs, fn, g, hb, (k, hn)
     let p : past_blanks (back ++ rest) ≡ name ++ rest =
     ap (λ t. past_blanks (t ++ rest)) g ∙ ap past_blanks (append_assoc bs fn rest) ∙ blanks_past bs (fn ++ rest) hb
     ∙ ap (λ t. past_blanks (t ++ rest)) k ∙ name_past name rest hn in
-    ap command_from (first 76 front byte back rest f h) ∙ ap layer_from p
+    ap command_from (byte_and 76 front byte back rest f h) ∙ ap layer_from p
     ∙ ap layer_named (name_reads name rest hn.2 e) ∙ named name rest hn
 command_reads (Start n a b) front rest
     (byte, back, f, h, (bs, more, g, hb, (s, more', g', hs, (fn, ft, g'', hn, ht)))) e =
     let stop : Stops (ft ++ rest) =
     either_stops ((a ≡ pos 1) × (b ≡ pos 1)) (Integer a ▹ Separator ▹ Integer b) ft rest ht e in
-    ap command_from (first 68 front byte back rest f h)
+    ap command_from (byte_and 68 front byte back rest f h)
     ∙ ap definition_from (after_d 83 back bs more s more' rest refl g hb g' hs)
     ∙ finds_both integer_from start_of n (Start n a b) more' fn ft rest g'' (integer_reads n fn (ft ++ rest) hn stop)
     (finished scale_from (λ s. Start n s.0 s.1) (a, b) ft rest (scale_reads a b ft rest ht e))
 command_reads Finish front rest (byte, back, f, h, (bs, more, g, hb, k)) e =
-    ap command_from (first 68 front byte back rest f h)
+    ap command_from (byte_and 68 front byte back rest f h)
     ∙ ap definition_from (after_d 70 back bs more more [] rest refl g hb (sym (append-nil more)) k)
 command_reads (Delete n) front rest (byte, back, f, h, (bs, more, g, hb, (s, fn, g', hs, hn))) e =
-    ap command_from (first 68 front byte back rest f h)
+    ap command_from (byte_and 68 front byte back rest f h)
     ∙ ap definition_from (after_d 68 back bs more s fn rest refl g hb g' hs)
     ∙ finished integer_from Delete n fn rest (integer_reads n fn rest hn (ends_stop rest e))
 command_reads (Call n ts) front rest (byte, back, f, h, (fn, ft, g, hn, ht)) e =
-    ap command_from (first 67 front byte back rest f h)
+    ap command_from (byte_and 67 front byte back rest f h)
     ∙ finds_both integer_from call_of n (Call n ts) back fn ft rest g
     (integer_reads n fn (ft ++ rest) hn (turns_stop ts ft rest ht (ends_stop rest e)))
     (finished turns_here (Call n) ts ft rest (turns_here_read ts ft rest ht e))

@@ -106,7 +106,7 @@ path_size (p ∷ q ∷ ps) front (fp, more, e, hp, (sep, fq, f, (b, g, hb), hq))
 
 -- ---- turns
 
-byte_and : (b : ℕ) (front byte back rest : List ℕ) → front ≡ byte ++ back → Byte b byte
+pub byte_and : (b : ℕ) (front byte back rest : List ℕ) → front ≡ byte ++ back → Byte b byte
     → front ++ rest ≡ b ∷ (back ++ rest)
 byte_and b front byte back rest e h = ap (λ t. t ++ rest) (e ∙ ap (λ t. t ++ back) h)
 

@@ -11,6 +11,7 @@ use Rattle.mp_program.specs.Names.{is_stored}
 use Rattle.mp_program.specs.Pads.{ArePadsOf, face}
 use Rattle.mp_program.specs.Step.{resets}
 use Rattle.mp_program.specs.Trace.{stores, IsSettled}
+use Rattle.mp_program.proofs.Faces.{kept_pads}
 use Rattle.stimulus.specs.declared.given.Given.{Given}
 use Rattle.stimulus.specs.declared.given.Stimulus.{Stimulus}
 use Rattle.stimulus.specs.Inputs.{inputs_at, inputs_of}
@@ -22,7 +23,7 @@ use Rattle.made_program.proofs.Lists.{clash}
 use Rattle.settled_sum.specs.Laws.{SettlesBehindFirst}
 use Rattle.made_stimulus.specs.Clocks.{AreMadeInputs, made_clocks}
 use Rattle.made_ready.proofs.Reading.{OneSource, MadeSources, read_is_made, input_faces, output_faces, made_inputs}
-use Rattle.made_ready.proofs.Reading.{few_inputs, given_pads}
+use Rattle.made_ready.proofs.Reading.{few_inputs}
 
 module _ (p : Program) (m : IsMade p) where
   stored : stores p ≡ true
@@ -84,7 +85,7 @@ pub ready_for : OneSource → MadeSources → MadeStimuli → OneClocks → (see
     → IsStimulus (stimulus_text seed) (Some pads) given → IsReadyFor p given
 ready_for one_source sources stimuli one_clocks seed p pads given is known read =
     let m = read_is_made one_source sources seed p is in
-    let padded = given_pads p pads (stimulus_text seed) given known read in
+    let padded = kept_pads p pads given.pads known read.inputs read.outputs in
     let made = stimuli seed pads (made_inputs p pads m known) in
     let clocks = one_clocks (stimulus_text seed) (Some pads) given made.0 read made.1 ∙ made.2 in
     record {

@@ -1,6 +1,5 @@
 -- What is made of a number breaks no rule.
 use Rattle.std.proofs.Common.{◌≡◌, ℕ, ◌≤◌, Bool, List, [], ◌∷◌, sym, ◌∙◌, ap, subst, map, length, codes, arith, Option}
-use Rattle.std.proofs.Common.{Some}
 use Rattle.std.specs.Prelude.{filter}
 use Rattle.std.proofs.lemmas.List.{length-map}
 use Rattle.std.proofs.lemmas.Simd.{map-map}
@@ -66,12 +65,6 @@ pub few_inputs : (pads : Pads) → AreMadeInputs pads.inputs → length pads.inp
 few_inputs pads are =
     let e : length pads.inputs ≡ 3 = sym (length-map pads.inputs (λ (p : Pad). p.width)) ∙ ap length are.widths in
     omega (arith, e)
-
--- the pads of a stimulus are those that it was read for
-pub given_pads : (p : Program) (pads : Pads) (text : List ℕ) (given : Stimulus) → ArePadsOf p pads
-    → IsStimulus text (Some pads) given → ArePadsOf p given.pads
-given_pads p pads text given are read =
-    record { inputs = ap (map face) read.inputs ∙ are.inputs; outputs = ap (map face) read.outputs ∙ are.outputs }
 
 -- ---- refusals that never come
 

@@ -35,6 +35,10 @@ pub is_true : (b : Bool) → Decided (b ≡ true)
 is_true true = inl refl
 is_true false = inr (λ e. absurd (cc))
 
+pub is_false : (b : Bool) → Decided (b ≡ false)
+is_false true = inr (λ e. absurd (cc))
+is_false false = inl refl
+
 pub is_number : (m n : ℕ) → Decided (m ≡ n)
 is_number m n = elim (cases_eq m n) [ inl same ↦ inl same | inr other ↦ inr other ]
 

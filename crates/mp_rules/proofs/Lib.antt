@@ -1,7 +1,7 @@
 pub mod EarliestPlaces
+pub mod Own
 pub mod Sequences
 pub mod Unbroken
 mod Places
-mod Own
 mod Few
 mod Moving

@@ -1,12 +1,12 @@
 -- The earliest place where a rule is broken, for each rule.
-use Rattle.std.proofs.Common.{◌≡◌, ◌≢◌, ◌⊎◌, inl, inr, ℕ, zero, suc, ◌<◌, ◌≤◌, ◌^◌, List, [], ◌∷◌, Bool, true, false}
+use Rattle.std.proofs.Common.{◌≡◌, ◌≢◌, ◌⊎◌, inl, inr, ℕ, zero, suc, ◌<◌, ◌≤◌, ◌^◌, List, [], ◌∷◌, true, false}
 use Rattle.std.proofs.Common.{Some, length, refl, sym, ap, subst}
 use Rattle.std.specs.Prelude.{All, Contains}
 use Rattle.std.proofs.lemmas.Option.{none-some, same_Some}
 use Rattle.mp_base.specs.declared.refusal.Place.{Place}
 use Rattle.mp_base.specs.declared.op.Op.TheVariants.{Bit}
-use Rattle.mp_base.proofs.Decisions.{Decided, same_claim, both_of, one_of, not_so, is_true, is_number, decided_below}
-use Rattle.mp_base.proofs.Decisions.{is_within, is_name, holds_of_all}
+use Rattle.mp_base.proofs.Decisions.{Decided, same_claim, both_of, one_of, not_so, is_false, is_true, is_number}
+use Rattle.mp_base.proofs.Decisions.{decided_below, is_within, is_name, holds_of_all}
 use Rattle.mp_program.specs.declared.program.ExprKind.{ExprKind}
 use Rattle.mp_program.specs.declared.program.ExprKind.TheVariants.{Number, Named, True, False, Apply}
 use Rattle.mp_program.specs.declared.program.FormKind.{FormKind}
@@ -336,7 +336,7 @@ module _ (p : Program) where
         (f, y, is, ((x, there, v, kind, (d, z, at_d, (name, chain))), same)))
 
   pub rule34 : First (E34 p)
-  rule34 = where_so (holds_of_all (λ (d : Def). is_reset d ≡ false) (λ d. is_off (is_reset d)) p.defs)
+  rule34 = where_so (holds_of_all (λ (d : Def). is_reset d ≡ false) (λ d. is_false (is_reset d)) p.defs)
       (either_place
       (same_places (first_of_all p.defs (λ d x at. (is_stored x.what ≡ true) × (at ≡ x.place))
       (λ d x is. this_place (is_stored x.what ≡ true) x.place (is_true (is_stored x.what))))
@@ -344,10 +344,6 @@ module _ (p : Program) where
       (λ at (d, x, is, stored, same). (d, x, is, (stored, same))))
       (first_of_all p.processes (λ k q at. at ≡ q.place) (λ k q is. same_places
       (this_place (Unit {0}) q.place (inl tt)) (λ at (u, same). same) (λ at same. (tt, same)))))
-    where
-      is_off : (b : Bool) → Decided (b ≡ false)
-      is_off false = inl refl
-      is_off true = inr (λ e. absurd (cc))
 
   pub rule35 : First (E35 p)
   rule35 = same_places (this_place ((w : What) × Contains supplies w × All (λ (d : Def). d.what ≢ w) p.defs) p.place

@@ -3,7 +3,7 @@ use Rattle.std.proofs.Common.{◌≡◌, ◌≢◌, ℕ, ◌<◌, ◌≤◌, ◌
 use Rattle.std.proofs.Common.{Bool, true, false, cond, eqb, length, map, get_or, refl, sym, ◌∙◌, ap, subst, arith}
 use Rattle.std.specs.Prelude.{All, Contains, not, slice_get}
 use Rattle.std.proofs.Math.Dec.{eqb-suc-zero}
-use Rattle.std.proofs.lemmas.Bool.{eqb-false, eqb-true, false≢true, true≢false}
+use Rattle.std.proofs.lemmas.Bool.{eqb-false, eqb-true, false≢true, not-false, not-true}
 use Rattle.std.proofs.lemmas.List.Elements.{All-contains}
 use Rattle.std.proofs.lemmas.Option.{get_or_from_slice_get, none-some, same_Some, slice_get-get_or, slice_get_within}
 use Rattle.mp_base.specs.declared.pad.Pad.{Pad}
@@ -222,22 +222,18 @@ module _ (p : DataPath) (flat : List Part) (number : Spot → NetId)
       → IsBit (spot 0 (number (record { band = b; net = n })))
   given_bit zero n l some =
       let q = counted_pad false (p.pads).inputs p.inputs n some in
-      let narrow : eqb q.pad.width 0 ≡ true = by_test (eqb q.pad.width 0) q.sort in
+      let narrow : eqb q.pad.width 0 ≡ true = not-false (eqb q.pad.width 0) q.sort in
       let s : pad_spot q.pad q.id 0 ≡ record { band = 0; net = n } =
       ap (λ b. spot (cond b 0 1) q.id) narrow ∙ ap (λ k. record { band = 0; net = k }) q.net in
       subst (λ (x : Spot). IsBit (spot 0 (number x))) s
       (in_row q.index q.pad q.id 0 q.is_pad q.is_id (subst (λ b. 0 < cond b 1 q.pad.width) (sym narrow)
       (omega arith)))
-    where
-      by_test : (b : Bool) → not b ≡ false → b ≡ true
-      by_test true e = refl
-      by_test false e = absurd (true≢false e)
   given_bit (suc k) n l some =
       let some' = subst (λ (ids : List NetId). 0 < times n ids)
       (ap (λ b. cond b (entries_of false (p.pads).inputs p.inputs) (entries_of true (p.pads).inputs p.inputs))
       (eqb-suc-zero k)) some in
       let q = counted_pad true (p.pads).inputs p.inputs n some' in
-      let wide : eqb q.pad.width 0 ≡ false = by_test (eqb q.pad.width 0) q.sort in
+      let wide : eqb q.pad.width 0 ≡ false = not-true (eqb q.pad.width 0) q.sort in
       let at = get_or_from_slice_get (p.pads).inputs q.index q.pad q.pad q.is_pad in
       let width : q.pad.width ≡ p.width =
       subst (λ (x : Pad). x.width ≢ 0 → x.width ≡ p.width) at
@@ -248,10 +244,6 @@ module _ (p : DataPath) (flat : List Part) (number : Spot → NetId)
       subst (λ (x : Spot). IsBit (spot 0 (number x))) s
       (in_row q.index q.pad q.id k q.is_pad q.is_id
       (subst (λ b. k < cond b 1 q.pad.width) (sym wide) (omega (arith, width, l))))
-    where
-      by_test : (b : Bool) → not b ≡ true → b ≡ false
-      by_test true e = absurd (false≢true e)
-      by_test false e = refl
 
   pub no_others : (k : Spot) → nets_of flat k ≡ Some Given → IsBit k
   no_others k is = by_band (eqb k.band 0) refl is

@@ -3,7 +3,7 @@ use Rattle.std.proofs.Common.{◌≡◌, ℕ, ◌<◌, ◌+◌, ◌^◌, zero, s
 use Rattle.std.proofs.Common.{Bool, true, false, cond, length, map, replicate, refl, sym, ◌∙◌, ap, subst, arith}
 use Rattle.std.specs.Prelude.{Contains, IsSome, ◌==◌, not, if◌then◌else◌, slice_get, slice_index, unwrap_or}
 use Rattle.std.specs.Int.{bit_at}
-use Rattle.std.proofs.lemmas.Bool.{false≢true, true≢false, lt-ltb, eqb-true, eq-eqb}
+use Rattle.std.proofs.lemmas.Bool.{false≢true, true≢false, not-true, not-false, lt-ltb, eqb-true, eq-eqb}
 use Rattle.std.proofs.lemmas.Option.{none-some, same_Some, slice_get_within}
 use Rattle.mp_base.specs.declared.value.Trit.{Trit}
 use Rattle.mp_base.specs.declared.value.Trit.TheVariants.{Zero, One}
@@ -437,14 +437,10 @@ module _ (r : Rtl) (p : DataPath) (sound : IsSound r) (tame : IsTame r) (a : IsA
       → Rattle.control_nor.specs.Lowering.InputBit p.control id pad
   bit_pad c i x id pad at is on is_pad word =
       let q = pad_at c i x at is in
-      let named = (a.lowered.pad_names i q.0 q.1).0 (eqb-true q.0.width 0 (turn (q.0.width == 0) (sym q.3 ∙ word))) in
+      let named = (a.lowered.pad_names i q.0 q.1).0 (eqb-true q.0.width 0 (not-false (q.0.width == 0) (sym q.3 ∙ word))) in
       let same : named.0 ≡ pad = same_Some named.0 pad (sym (a.bit_ports i named.0 named.1) ∙ is_pad) in
       subst (Rattle.control_nor.specs.Lowering.InputBit p.control id) same
       (a.lowered.ports c i x id named.0 at is on named.1)
-    where
-      turn : (b : Bool) → not b ≡ false → b ≡ true
-      turn true e = refl
-      turn false e = absurd (true≢false e)
 
   port_shape_word : (c i k : ℕ) (x : cells.Cell) (id pad : NetId) → IsAt r.cells c x → x.kind ≡ kinds.Input i
       → Stands a.cell_words c id → slice_get p.inputs i ≡ Some pad → k < p.width → x.word ≡ true
@@ -481,7 +477,7 @@ module _ (r : Rtl) (p : DataPath) (sound : IsSound r) (tame : IsTame r) (a : IsA
       → values (spot (suc k) pad) ≡ bit (bits_of inputs i k)
   given_word inputs values has c i k x id pad at is on is_pad l word =
       let q = pad_at c i x at is in
-      let narrow : (q.0.width == 0) ≡ false = turn (q.0.width == 0) (sym q.3 ∙ word) in
+      let narrow : (q.0.width == 0) ≡ false = not-true (q.0.width == 0) (sym q.3 ∙ word) in
       let width : q.0.width ≡ r.width = elim q.4 [
         | inl e ↦ e
         | inr z ↦ absurd
@@ -490,10 +486,6 @@ module _ (r : Rtl) (p : DataPath) (sound : IsSound r) (tame : IsTame r) (a : IsA
       let m : k < pad_bits q.0 = subst (λ b. k < cond b 1 q.0.width) (sym narrow)
       (let aw = a.width in omega (arith, l, width, aw)) in
       sym (ap (λ b. values (spot (if b then 0 else suc k) pad)) narrow) ∙ has i q.0 pad k q.1 is_pad m
-    where
-      turn : (b : Bool) → not b ≡ true → b ≡ false
-      turn false e = refl
-      turn true e = absurd (false≢true e)
 
   given_bit : (inputs : List ℕ) (values : Spot → Trit) → HasPadValues (r.pads).inputs p.inputs inputs values
       → (c i : ℕ) (x : cells.Cell) (id pad : NetId) → IsAt r.cells c x → x.kind ≡ kinds.Input i
@@ -501,14 +493,10 @@ module _ (r : Rtl) (p : DataPath) (sound : IsSound r) (tame : IsTame r) (a : IsA
       → values (spot 0 pad) ≡ bit (bits_of inputs i 0)
   given_bit inputs values has c i x id pad at is on is_pad word =
       let q = pad_at c i x at is in
-      let narrow : (q.0.width == 0) ≡ true = turn (q.0.width == 0) (sym q.3 ∙ word) in
+      let narrow : (q.0.width == 0) ≡ true = not-false (q.0.width == 0) (sym q.3 ∙ word) in
       let m : 0 < pad_bits q.0 = subst (λ b. 0 < cond b 1 q.0.width) (sym narrow)
       (let h : 0 < 1 = omega arith in h) in
       sym (ap (λ b. values (spot (if b then 0 else 1) pad)) narrow) ∙ has i q.0 pad 0 q.1 is_pad m
-    where
-      turn : (b : Bool) → not b ≡ false → b ≡ true
-      turn true e = refl
-      turn false e = absurd (true≢false e)
 
   given_ports : (inputs : List ℕ) (values : Spot → Trit) → HasPadValues (r.pads).inputs p.inputs inputs values
       → (i k : ℕ) (q : Port) → a.inputs_at i k ≡ Some q → values q.pad ≡ bit (bits_of inputs i k)

@@ -1,10 +1,9 @@
 -- What a replay shows, and that it follows the source.
-use Rattle.std.proofs.Common.{◌++◌, ℕ, List, refl, ap, sym, subst, ◌∙◌, map, Option, Some, None, IfSome}
+use Rattle.std.proofs.Common.{◌++◌, ℕ, List, refl, sym, subst, Option, Some, None, IfSome}
 use Rattle.outside.specs.Outside.{Files, bytes_of}
 use Rattle.mp_base.specs.declared.value.Trit.TheVariants.{X}
-use Rattle.mp_base.specs.declared.pad.Pads.{Pads}
 use Rattle.mp_program.specs.declared.program.Program.{Program}
-use Rattle.mp_program.specs.Pads.{ArePadsOf, face}
+use Rattle.mp_program.proofs.Faces.{kept_pads}
 use Rattle.mp_checker.specs.Checking.{CheckedProgram}
 use Rattle.switch_net.specs.declared.network.Network.{Network}
 use Rattle.switch_net.specs.Breaks.{HasPads}
@@ -77,14 +76,9 @@ module _ (source stimulus cif : List ℕ) (checked : CheckedProgram) (given : St
   leads None fault spelled read = tt
   leads (Some files) fault spelled read = (fault, shown files spelled read)
 
--- the pads of a stimulus are those of the program that it was read for
-given_pads : (program : Program) (pads : Pads) (text : List ℕ) (given : Stimulus) → ArePadsOf program pads
-    → IsStimulus text (Some pads) given → ArePadsOf program given.pads
-given_pads program pads text given are read =
-    record { inputs = ap (map face) read.inputs ∙ are.inputs; outputs = ap (map face) read.outputs ∙ are.outputs }
-
 pub follow : OneSource → circuits.ReplaysFollow → ReplaysFollow
 follow one follows source stimulus chip text made told =
     let same = one_program one source made.program told.program made.is_source told.is_source in
     follows told.program chip told.network told.given text (subst (λ p. IsChipOf p chip) same made.masks)
-    (given_pads told.program told.pads stimulus told.given told.padded told.is_stimulus) told.drawn told.replay
+    (kept_pads told.program told.pads (told.given).pads told.padded (told.is_stimulus).inputs
+    (told.is_stimulus).outputs) told.drawn told.replay

@@ -1,20 +1,16 @@
 -- What is shown has one sum of its settled clocks.
-use Rattle.std.proofs.Common.{◌≡◌, ◌∙◌, ℕ, ◌<◌, ◌^◌, ◌%◌, List, [], Bool, true, false, length, map, refl, sym, ap}
+use Rattle.std.proofs.Common.{◌≡◌, ◌∙◌, ℕ, ◌<◌, ◌^◌, ◌%◌, List, [], true, length, map, refl, sym, ap}
 use Rattle.std.proofs.Common.{inl, inr, arith}
 use Rattle.std.specs.Prelude.{sum, slice_index, slice_index_or}
 use Rattle.std.specs.List.{range_with_len}
 use Rattle.std.proofs.lemmas.Grind.{same_number_lists}
 use Rattle.std.proofs.lemmas.List.FromFn.{get_or-map-range_with_len, length-map-range_with_len}
-use Rattle.mp_base.proofs.Decisions.{Decided, is_true, one_of, some_below}
+use Rattle.mp_base.proofs.Decisions.{Decided, is_false, is_true, one_of, some_below}
 use Rattle.mp_program.specs.declared.program.Program.{Program}
 use Rattle.mp_program.specs.Step.{resets}
 use Rattle.mp_program.specs.Trace.{IsSettled, stores}
 use Rattle.settled_sum.specs.Sum.{IsSettledSum}
 use Rattle.settled_sum.specs.Laws.{SumExists, SumOnce}
-
-is_false : (b : Bool) → Decided (b ≡ false)
-is_false true = inr (λ e. absurd (cc))
-is_false false = inl refl
 
 settles : (p : Program) (inputs : List (List ℕ)) (k : ℕ) → Decided (IsSettled p inputs k)
 settles p inputs k = one_of (is_false (stores p))
