@@ -583,6 +583,7 @@ module _ (r : Rtl) (p : DataPath) (sound : IsSound r) (tame : IsTame r) (a : IsA
 
 pub realizes : (r : Rtl) (p : DataPath) → IsSound r → IsTame r → IsAllocated r p → Realizes r p
 realizes r p sound tame a = record {
+  pads = a.pads;
   stored = a.stores;
   ports = a.inputs_at;
   are_stores = are_stores r p sound tame a;

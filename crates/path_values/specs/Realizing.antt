@@ -35,9 +35,10 @@ Computes r p stored ports =
     (λ v. HasPadValues (r.pads).outputs p.outputs outputs v
     × HasNext stored (bits_of (next_state r state inputs env)) v)
 
--- Bit k of the stored cell c, and bit k of input pad c, have their nets; where a latch of the reset pad is 1, every
--- master is given 0.
+-- The pads are those of the transfers. Bit k of the stored cell c, and bit k of input pad c, have their nets; where a
+-- latch of the reset pad is 1, every master is given 0.
 pub record Realizes (r : Rtl) (p : DataPath) : Type 0 where
+  pub pads : p.pads ≡ r.pads
   pub stored : Stores
   pub ports : Ports
   pub are_stores : AreStores (path_nets p) stored
