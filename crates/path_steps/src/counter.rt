@@ -1,7 +1,8 @@
 //! Transfers made by hand: a counter of one bit, which shows what it stores.
 
 ghost use Rattle.std.specs.Prelude.{◌≡◌, ◌≤◌, [], ◌∷◌, IfOk, IfSome};
-ghost use Rattle.path_steps.specs.Counter.{IsCounter, ShowsCounter, counter_cells, counter_exprs, counter_transfers};
+ghost use Rattle.path_steps.specs.Counter.{AreCounterPads, IsCounter, ShowsCounter};
+ghost use Rattle.path_steps.specs.Counter.{counter_cells, counter_exprs, counter_transfers};
 
 use crate::steps::flat_of;
 use mp_base::{List, Name, NoMemory, Op, Pad, Pads};
@@ -12,6 +13,8 @@ use std::alloc::{AllocError, Global};
 
 fn pad(alloc: Global, name: &str, width: u8) -> Result<Pad, NoMemory>
     requires { width ≤ 64 }
+    ensures name { IfOk result (λ pad. pad.name ≡ name.now) }
+    ensures width { IfOk result (λ pad. pad.width ≡ width) }
 {
     Ok(Pad {
         name: Name::from_slice(alloc, name.as_bytes())?,
@@ -19,11 +22,15 @@ fn pad(alloc: Global, name: &str, width: u8) -> Result<Pad, NoMemory>
     })
 }
 
-fn listed(alloc: Global, pad: Pad) -> Result<List<Pad>, AllocError> {
+fn listed(alloc: Global, pad: Pad) -> Result<List<Pad>, AllocError>
+    ensures { IfOk result (λ list. list ≡ pad ∷ []) }
+{
     Ok(List::from_vec(vec![in alloc; pad]?))
 }
 
-fn pads(alloc: Global) -> Result<Option<Pads>, NoMemory> {
+fn pads(alloc: Global) -> Result<Option<Pads>, NoMemory>
+    ensures { IfOk result (λ found. IfSome found AreCounterPads) }
+{
     let reset = pad(alloc, "reset", 0)?;
     let inputs = listed(alloc, reset)?;
     let shown = pad(alloc, "q", 1)?;

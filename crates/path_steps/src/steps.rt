@@ -3,8 +3,9 @@
 ghost use Rattle.std.specs.Prelude.{◌≡◌, ◌≤◌, IfOk};
 ghost use Rattle.rtl_form.specs.Cost.{cost};
 ghost use Rattle.rtl_form.specs.Sound.{IsSound};
-ghost use Rattle.path_form.specs.Flat.{FlatShowsTransfers};
+ghost use Rattle.process_plan.specs.Same.{IsSame};
 ghost use Rattle.path_form.specs.Showing.{ShowsTransfers};
+ghost use Rattle.path_steps.specs.Flat.{IsFlatOf};
 ghost use Rattle.mp_base.specs.declared.limits.TheConstants.{WEIGHT_LIMIT};
 
 use datapath_alloc::allocate;
@@ -18,12 +19,13 @@ use process_sequencer::sequence;
 use rtl_form::Rtl;
 use std::alloc::Global;
 
-/// The transfers of a checked program, which fit together and cost at most what the language allows.
+/// Transfers that are a checked program's, fit together and cost at most what the language allows.
 ///
 /// # Errors
 ///
 /// `NoMemory`.
 pub fn transfers_of(alloc: Global, checked: &Checked) -> Result<Rtl, NoMemory>
+    ensures same { IfOk result (IsSame checked.now.program) }
     ensures sound { IfOk result IsSound }
     ensures light { IfOk result (λ rtl. cost rtl ≤ WEIGHT_LIMIT) }
 {
@@ -45,7 +47,7 @@ fn path_of(alloc: Global, rtl: &Rtl) -> Result<DataPath, NoMemory>
     Ok(path)
 }
 
-/// A flat net that shows transfers, from any values.
+/// The flat net of a path of transfers, which shows what these show, from any values.
 ///
 /// # Errors
 ///
@@ -53,7 +55,7 @@ fn path_of(alloc: Global, rtl: &Rtl) -> Result<DataPath, NoMemory>
 pub fn flat_of(alloc: Global, rtl: &Rtl) -> Result<Flattened, NoMemory>
     requires sound { IsSound rtl.now }
     requires light { cost rtl.now ≤ WEIGHT_LIMIT }
-    ensures { IfOk result (FlatShowsTransfers rtl.now) }
+    ensures { IfOk result (IsFlatOf rtl.now) }
 {
     flat_nets_follow();
     let path = path_of(alloc, rtl)?;

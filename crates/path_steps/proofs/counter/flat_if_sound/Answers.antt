@@ -8,5 +8,5 @@ pub returns : goal.returns
 returns c = record {
   transfers = c.args.rtl.now;
   counter = c.requires;
-  shown = c.in_ok-flat.ensures;
+  flat = c.in_ok-flat.ensures;
 }
