@@ -1,9 +1,12 @@
 -- A fabric whose ties are those of the nets draws the nets.
 use Rattle.std.proofs.Common.{◌≡◌, ◌⊎◌, inl, inr, ℕ, ◌<◌, List, Some, refl, sym, ◌∙◌, ap, subst}
-use Rattle.std.proofs.Common.{Bool, true, false, filter}
-use Rattle.std.specs.Prelude.{Contains, ◌≢◌}
+use Rattle.std.proofs.Common.{Bool, true, false, filter, length, get_or, arith}
+use Rattle.std.specs.Prelude.{AllPairs, Contains, ◌≢◌}
+use Rattle.std.proofs.lemmas.List.{get_or_default}
+use Rattle.std.proofs.lemmas.List.Kept.{AllPairs-filter}
 use Rattle.mp_base.proofs.Tests.{false_true}
 use Rattle.mp_base.proofs.Members.{member_contains, contains_member, member_filter, filter_member, zip_left, zip_right}
+use Rattle.mp_base.proofs.Zips.{zip_at, zip_length}
 use Rattle.tile_cells.specs.declared.tile.Tile.TheVariants.{TapL, TapR, Tran, PullUp, Under}
 use Rattle.switch_net.specs.declared.network.ChannelKind.TheVariants.{Enhancement, Depletion}
 use Rattle.switch_net.specs.declared.network.Channel.{Channel}
@@ -11,18 +14,20 @@ use Rattle.switch_net.specs.declared.network.Network.{Network}
 use Rattle.fabric.specs.declared.thing.Side.{Side}
 use Rattle.fabric.specs.declared.thing.Side.TheVariants.{L, R}
 use Rattle.fabric.specs.declared.thing.Mark.{Mark}
-use Rattle.fabric.specs.Plan.{Plan, IsFabric}
+use Rattle.fabric.specs.Plan.{Plan, IsFabric, MarksApart}
 use Rattle.fabric.specs.Switches.{Net, power, IsTapOn, is_switch, IsSwitch}
 use Rattle.fabric.specs.Switches.{AreSwitches}
 use Rattle.nor_net.specs.declared.net.Phase.{Phase}
 use Rattle.nor_net.specs.Elements.{Spot, Nor, Latched, Nets}
 use Rattle.drawing.specs.Draws.{Point, OfNet, Ground, Power, OfPhase, IsOwn, HasOwnNode, HasEnds, IsPullDown}
-use Rattle.drawing.specs.Draws.{IsPullUp, IsPass, IsDrawn, pull_down, pull_up, pass, lone, Draws}
+use Rattle.drawing.specs.Draws.{IsPullUp, IsPass, IsDrawn, pull_down, pull_up, pass, lone, PullUpsApart, Draws}
+use Rattle.array_form.specs.Lists.{mark}
 use Rattle.array_form.specs.Named.{Tie, tap, tran, pull, IsAt, IsNamed}
 use Rattle.array_form.specs.Roots.{Root, at, alone, AreRoots, AreRooted, IsSwitchOf, down_of, pass_of}
 use Rattle.array_form.specs.Roots.{up_of, lone_of, AreSwitchesOf, AreHubs}
 use Rattle.array_form.proofs.Once.{line_once, segment_once}
 use Rattle.array_form.proofs.Naming.{roots_from_numbers, hub_number}
+use Rattle.array_form.proofs.PullUps.{IsTopOf, one_top, top_of}
 
 tap_is_no_switch : (s : Side) (m : Mark) → IsTapOn s m.tile → is_switch m ≡ true → ⊥
 tap_is_no_switch L m a b =
@@ -248,6 +253,69 @@ module _ (W : Type 0) (In : W → Type 0) (T : Tie W → Type 0) (f : Plan) (law
       lone (number (net_of a)) (alone_at a n (rooted.speaks (pull a) q) ra)
       (up_at a (number (net_of a)) refl c (pull_is m a r c s))
 
+  -- the wire of a pull-up, which ends below the pull-up's mark
+  record IsPulledUp (m : Mark) (c : Channel) : Type 0 where
+    wire : W
+    tied : T (pull wire)
+    gate : c.gate ≡ number (net_of wire)
+    top : IsTopOf f (net_of wire) m
+
+  pulled_up : (m : Mark) (c : Channel) → Contains f.marks m → IsSwitch f number m c → c.kind ≡ Depletion
+      → IsPulledUp m c
+  pulled_up m c marked s kind = by (named.marked m marked (λ e. cc (sym is_pull ∙ e)))
+    where
+      is_pull : m.tile ≡ PullUp
+      is_pull = elim s.kind [ inl h ↦ absurd (cc (sym h.1 ∙ kind)) | inr h ↦ h.0 ]
+
+      by : (t : Tie W) × T t × IsAt W f net_of m t → IsPulledUp m c
+      by (tap L w v, tied, crossing) = absurd (cc (sym is_pull ∙ crossing.0))
+      by (tap R w v, tied, crossing) = absurd (cc (sym is_pull ∙ crossing.0))
+      by (tran g a b, tied, crossing) = absurd (cc (sym is_pull ∙ crossing.0))
+      by (pull a, tied, crossing) = record {
+        wire = a;
+        tied = tied;
+        gate = (pull_is m a crossing c s).gate;
+        top = top_of f lawful (net_of a) m marked is_pull crossing.1;
+      }
+
+  -- pull-ups of one node are of one wire, so of one mark
+  two_nodes : (m k : Mark) (c d : Channel) → IsPulledUp m c → IsPulledUp k d → MarksApart m k → c.gate ≢ d.gate
+  two_nodes m k c d one other apart same =
+      let roots = roots_from_numbers W In T f lawful net_of named rooted.speaks root hub rooted network.nodes number
+      are.nodes one.wire other.wire (rooted.speaks (pull one.wire) one.tied)
+      (rooted.speaks (pull other.wire) other.tied) (sym one.gate ∙ same ∙ other.gate) in
+      let wires = switches.one_pull_up one.wire other.wire one.tied other.tied roots in
+      one_top f (net_of other.wire) m k (subst (λ w. IsTopOf f (net_of w) m) wires one.top) other.top apart
+
+  abbrev no_mark : Mark
+  no_mark = mark Tran 0 0 0
+
+  -- the mark of channel k
+  abbrev switch_of : ℕ → Mark
+  switch_of k = get_or (filter is_switch f.marks) k no_mark
+
+  many_switches : length (filter is_switch f.marks) ≡ length network.channels
+  many_switches = zip_length (IsSwitch f number) (filter is_switch f.marks) network.channels are.channels
+
+  pulled_up_at : (k : ℕ) (c : Channel) → k < length network.channels → (get_or network.channels k c).kind ≡ Depletion
+      → IsPulledUp (switch_of k) (get_or network.channels k c)
+  pulled_up_at k c lt kind =
+      let many = many_switches in
+      let inside : k < length (filter is_switch f.marks) = omega (arith, lt, many) in
+      let member = member_filter is_switch f.marks (switch_of k)
+      (contains_member (filter is_switch f.marks) (switch_of k)
+      (k, inside, get_or_default (filter is_switch f.marks) k (switch_of k) no_mark inside)) in
+      pulled_up (switch_of k) (get_or network.channels k c) (member_contains f.marks (switch_of k) member.0)
+      (zip_at (IsSwitch f number) (filter is_switch f.marks) network.channels are.channels k no_mark c inside) kind
+
+  alone : AllPairs PullUpsApart network.channels
+  alone i j c less within up also same =
+      let many = many_switches in
+      two_nodes (switch_of i) (switch_of j) (get_or network.channels i c) (get_or network.channels j c)
+      (pulled_up_at i c (omega (arith, less, within)) up) (pulled_up_at j c within also)
+      (AllPairs-filter MarksApart is_switch f.marks lawful.marks_apart i j no_mark less (omega (arith, within, many)))
+      same
+
   pub draws : Draws network.channels nets node
   unfolding node
   draws = record {
@@ -277,6 +345,7 @@ module _ (W : Type 0) (In : W → Type 0) (T : Tie W → Type 0) (f : Plan) (law
         let m = switch_at c i in
         let t = named.marked m.0 m.1 (under_is_no_switch m.0 m.2) in
         drawn_at m.0 t.0 t.1 t.2 m.2 c m.3 (switches.only t.0 t.1);
+    alone = alone;
   }
 
   -- the node of a net is that of its segment, wherever the segment's root is the net's

@@ -1,4 +1,5 @@
 pub mod Once
+mod PullUps
 pub mod Naming
 pub mod Drawn
 pub mod Made

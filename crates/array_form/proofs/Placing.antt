@@ -1,5 +1,5 @@
 -- What the marks of one placed net tie: equal roots, and the switches of its parts.
-use Rattle.std.proofs.Common.{◌≡◌, ℕ, List, Some, Bool, refl, sym, ◌∙◌, ap, subst, map}
+use Rattle.std.proofs.Common.{◌≡◌, ℕ, List, Option, Some, None, Bool, refl, sym, ◌∙◌, ap, subst, map}
 use Rattle.std.specs.Prelude.{slice_get}
 use Rattle.mp_base.proofs.Members.{member_contains, contains_member, map_member}
 use Rattle.fabric.specs.declared.thing.Side.{Side}
@@ -7,14 +7,52 @@ use Rattle.nor_net.specs.declared.net.Phase.{Phase}
 use Rattle.nor_net.specs.declared.net.NetId.{NetId}
 use Rattle.nor_net.specs.declared.net.Part.{Part}
 use Rattle.nor_net.specs.declared.net.Part.TheVariants.{Gate, Latch}
-use Rattle.nor_net.specs.Elements.{Spot, spot, Element, Given, Nor, Latched, Nets}
-use Rattle.drawing.specs.Draws.{OfNet, Ground, IsOwn}
-use Rattle.array_form.specs.Named.{Tie, tap}
-use Rattle.array_form.specs.Roots.{Root, at, AreRoots, IsSwitchOf, no_switch, down_of, pass_of, up_of}
-use Rattle.array_form.specs.Wires.{Wire, place, NetTie}
+use Rattle.nor_net.specs.Elements.{Spot, spot, Element, Given, Nor, Latched, Joined, Low, Nets}
+use Rattle.drawing.specs.Draws.{OfNet, Ground, Power, OfPhase, IsOwn}
+use Rattle.array_form.specs.Named.{Tie, tap, tran, pull}
+use Rattle.array_form.specs.Roots.{Root, at, alone, AreRoots, IsSwitchOf, no_switch, down_of, pass_of, up_of}
+use Rattle.array_form.specs.Wires.{Wire, left, place, NetTie}
 use Rattle.array_form.specs.Wires.{left_root, right_root, root, AreElements}
 use Rattle.array_form.specs.Wires.NetTie.{gate_own, gate_ground, gate_pull, gate_input, latch_own, latch_data}
 use Rattle.array_form.specs.Wires.NetTie.{latch_phase, stub_own}
+
+-- the net of a root
+spot_of : Root → Spot
+spot_of (at (OfNet n)) = n
+spot_of (at Ground) = place 0 0
+spot_of (at Power) = place 0 0
+spot_of (at (OfPhase p)) = place 0 0
+spot_of (alone n) = n
+
+left_spot : (n : Spot) (e : Option Element) → spot_of (left_root n e) ≡ n
+unfolding spot_of
+left_spot n None = refl
+left_spot n (Some Given) = refl
+left_spot n (Some (Nor inputs)) = refl
+left_spot n (Some (Latched p source)) = refl
+left_spot n (Some (Joined other)) = refl
+left_spot n (Some Low) = refl
+
+-- left lines with one root are one
+pub left_once : (nets : Nets) (n m : Spot) → left_root n (nets n) ≡ left_root m (nets m) → n ≡ m
+left_once nets n m e = sym (left_spot n (nets n)) ∙ ap spot_of e ∙ left_spot m (nets m)
+
+-- what has a pull-up is a left line
+abbrev pub IsPulled : (X : Type 0) → Tie (Wire X) → Type 0
+IsPulled X (tap side w v) = Unit {0}
+IsPulled X (tran g a b) = Unit {0}
+IsPulled X (pull a) = (n : Spot) × (a ≡ left n)
+
+pub net_pulled : (X : Type 0) (b : ℕ) (parts : List Part) (stub : ℕ → Bool) (t : Tie (Wire X))
+    → NetTie X b parts stub t → IsPulled X t
+net_pulled X b parts stub t (gate_own n ins e) = tt
+net_pulled X b parts stub t (gate_ground n ins e) = tt
+net_pulled X b parts stub t (latch_own n p d e) = tt
+net_pulled X b parts stub t (latch_data n p d e) = tt
+net_pulled X b parts stub t (stub_own n e s) = tt
+net_pulled X b parts stub t (gate_pull n ins e) = (place b n, refl)
+net_pulled X b parts stub t (gate_input n ins i e c) = tt
+net_pulled X b parts stub t (latch_phase n p d e) = tt
 
 module _ (X : Type 0) (nets : Nets) (root_of : Spot → Root) (rank : Spot → ℕ) (roots : AreRoots nets root_of rank)
     (others : X → Root)

@@ -51,6 +51,7 @@ pub record AreSwitchesOf (nets : Nets) (W : Type 0) (T : Tie W → Type 0) (root
   pub passes : (n source : Spot) (p : Phase) → nets n ≡ Some (Latched p source)
       → (g : W) × (a : W) × (b : W) × T (tran g a b) × (root g ≡ at (OfPhase p)) × (root a ≡ at (OfNet n))
       × (root b ≡ root_of source)
+  pub one_pull_up : (a b : W) → T (pull a) → T (pull b) → root a ≡ root b → a ≡ b
 
 -- each point with a node of its own has a wire, and power's is power
 pub record AreHubs (nets : Nets) (W : Type 0) (In : W → Type 0) (root : W → Root) (hub : Root → W) : Type 0 where

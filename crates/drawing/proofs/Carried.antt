@@ -1,12 +1,14 @@
 -- What one network draws, another draws that is the same up to numbering.
-use Rattle.std.proofs.Common.{ℕ, ◌≡◌, ◌<◌, inl, inr, refl, sym, ◌∙◌, ap, subst, get_or, Contains}
+use Rattle.std.proofs.Common.{ℕ, ◌≡◌, ◌<◌, inl, inr, refl, sym, ◌∙◌, ap, subst, arith, get_or, Contains}
+use Rattle.std.specs.Prelude.{AllPairs}
+use Rattle.std.proofs.lemmas.Bool.{cases_order}
 use Rattle.std.proofs.lemmas.List.{get_or_default}
 use Rattle.switch_net.specs.declared.network.Channel.{Channel}
 use Rattle.switch_net.specs.declared.network.Network.{Network}
 use Rattle.renumbering.specs.Same.{SameChannel, Renumbering}
 use Rattle.renumbering.proofs.Composing.{flipped, gate_at}
 use Rattle.nor_net.specs.Elements.{Spot, Nets}
-use Rattle.drawing.specs.Draws.{Point, HasOwnNode, HasEnds, IsPullDown, IsPullUp, IsPass, IsDrawn, Draws}
+use Rattle.drawing.specs.Draws.{Point, HasOwnNode, HasEnds, IsPullDown, IsPullUp, IsPass, IsDrawn, PullUpsApart, Draws}
 use Rattle.drawing.specs.Draws.Point.{OfNet, Ground, Power}
 use Rattle.drawing.specs.Draws.IsDrawn.{pull_down, pull_up, pass, lone}
 use Rattle.drawing.specs.Carrying.{DrawingsCarryOver}
@@ -76,6 +78,27 @@ module _ (n m : Network) (r : Renumbering n m) (net : Nets) (node : Point → �
   drawn_there c b g s (lone x f p) = lone (r.node_back x)
       (λ q o e. f q o (back_same (node q) x (own_low q o) (subst (λ z. z < m.nodes) p.by g) e)) (up x c b s p)
 
+  -- two pull-ups stand for two
+  alone_there : AllPairs PullUpsApart n.channels
+  alone_there i j c less within up also same =
+      let first = r.same i c c (omega (arith, less, within)) in
+      let second = r.same j c c within in
+      let kind = sym first.kind ∙ up in
+      let other = sym second.kind ∙ also in
+      let gates = sym first.gate ∙ ap r.node same ∙ second.gate in
+      elim (cases_order (r.channel i) (r.channel j)) [
+        | inl e ↦
+            absurd
+            (let back = sym (r.channels.there_back i (omega (arith, less, within))) ∙ ap r.channel_back e
+            ∙ r.channels.there_back j within in
+            omega (arith, back, less))
+        | inr (inl lt) ↦
+            d.alone (r.channel i) (r.channel j) c lt (r.channels.within j within) kind other gates
+        | inr (inr lt) ↦
+            d.alone (r.channel j) (r.channel i) c lt (r.channels.within i (omega (arith, less, within))) other kind
+            (sym gates)
+      ]
+
   carried : Draws n.channels net there
   carried = record {
     apart = λ p q h k e. d.apart p q h k (back_same (node p) (node q) (own_low p h) (own_low q k) e);
@@ -94,6 +117,7 @@ module _ (n m : Network) (r : Renumbering n m) (net : Nets) (node : Point → �
         let s : SameChannel r.node_back c b = subst (SameChannel r.node_back c)
         (ap (λ z. get_or n.channels z b) (r.channels.there_back h.0 h.1) ∙ h.2) s0 in
         drawn_there c b (gate_at m j b hj) s (d.only c (j, hj, get_or_default m.channels j c b hj)));
+    alone = alone_there;
   }
 
 pub carry : DrawingsCarryOver

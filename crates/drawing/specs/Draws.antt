@@ -1,5 +1,5 @@
 -- What it means that channels draw nets, by their places: a net that stands alone, or a data path.
-use Rattle.std.specs.Prelude.{◌≡◌, ◌↔◌, ◌⊎◌, ℕ, List, Option, Some, None, Contains}
+use Rattle.std.specs.Prelude.{◌≡◌, ◌≢◌, ◌↔◌, ◌⊎◌, ℕ, List, Option, Some, None, AllPairs, Contains}
 use Rattle.switch_net.specs.declared.network.ChannelKind.TheVariants.{Enhancement, Depletion}
 use Rattle.switch_net.specs.declared.network.Channel.{Channel}
 use Rattle.nor_net.specs.declared.net.Phase.{Phase}
@@ -60,8 +60,13 @@ pub data IsDrawn (nets : Nets) (node : Point → ℕ) (c : Channel) : Type 0 whe
   -- on a node of no net
   lone : (k : ℕ) → ((p : Point) → HasOwnNode nets p → ¬ (node p ≡ k)) → IsPullUp node k c → IsDrawn nets node c
 
+-- two pull-ups are of two nodes
+abbrev pub PullUpsApart : Channel → Channel → Type 0
+PullUpsApart c d = c.kind ≡ Depletion → d.kind ≡ Depletion → c.gate ≢ d.gate
+
 -- The channels draw the nets along a map that gives a node to each net, to ground, to power and to each phase.
--- Different ones have different nodes, but for nets that are joined or set to 0; and there are no other channels.
+-- Different ones have different nodes, but for nets that are joined or set to 0; there are no other channels, and no
+-- node has two pull-ups.
 pub record Draws (channels : List Channel) (nets : Nets) (node : Point → ℕ) : Type 0 where
   pub apart : (p q : Point) → HasOwnNode nets p → HasOwnNode nets q → node p ≡ node q → p ≡ q
   pub lows : (n : Spot) → nets n ≡ Some Low → node (OfNet n) ≡ node Ground
@@ -73,3 +78,4 @@ pub record Draws (channels : List Channel) (nets : Nets) (node : Point → ℕ) 
   pub passes : (n : Spot) (p : Phase) (source : Spot) → nets n ≡ Some (Latched p source)
       → Has channels (IsPass node p source n)
   pub only : (c : Channel) → Contains channels c → IsDrawn nets node c
+  pub alone : AllPairs PullUpsApart channels

@@ -94,6 +94,7 @@ module _ (drawn : NetworksDrawCircuits) (fed : PathsAreFed) (rtl : Rtl) (p : Dat
       is_ground = circuit.ground;
       is_power = circuit.power;
       tied = λ d k. (tied n.channels (path_nets p) node circuit.draws circuit.is_fed d k).0;
+      alone = circuit.draws.alone;
       fed = λ c k. (tied n.channels (path_nets p) node circuit.draws circuit.is_fed c k).1;
       clocked = λ c k kind. elim (clocked n.channels (path_nets p) node circuit.draws c k kind) [
         | inl ground ↦ inl ground

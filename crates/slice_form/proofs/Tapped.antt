@@ -74,7 +74,7 @@ use Rattle.array_form.specs.Wires.{
   hub,
   AreElements,
 }
-use Rattle.array_form.proofs.Placing.{net_tapped, net_switch}
+use Rattle.array_form.proofs.Placing.{IsPulled, left_once, net_pulled, net_tapped, net_switch}
 use Rattle.slice_form.specs.Path.{Path, Carry, Programmed, parts, pads, Feeds, from_below, from_above, open_band}
 use Rattle.slice_form.specs.Path.{IsElement, gate, store, pad, cast, lift, next, open_end, one, zero_bit, AreNetsOf}
 use Rattle.slice_form.specs.Path.{IsPath}
@@ -643,6 +643,29 @@ module _ (p : Path) (stub : ℕ → ℕ → Bool) (nets : Nets) (are : AreNetsOf
     ap (right_root root_of) ((elements b w).latches k ph d h),
   )
 
+  path_pulled : (t : Tie (Wire Across)) → PathTie p stub t → IsPulled Across t
+  path_pulled t (of_net b t2 w h) = net_pulled Across b (parts p b) (stub b) t h
+  path_pulled t (of_phase b ph w) = tt
+  path_pulled t (of_cast i c e) = tt
+  path_pulled t (of_cast_slice i c b e s) = tt
+  path_pulled t (of_lift i l e) = tt
+  path_pulled t (of_lift_slice i l e) = tt
+  path_pulled t (of_lift_stub i l b e s apart) = tt
+  path_pulled t (of_below i c g e h) = tt
+  path_pulled t (of_above i c g e h) = tt
+  path_pulled t (of_open i c e) = tt
+  path_pulled t (of_bit_ground i g b e h) = tt
+  path_pulled t (of_bit_pull i g b e h) = (place (suc b) g.net, refl)
+  path_pulled t (of_one i g b e h bit) = tt
+  path_pulled t (of_zero i g b e h bit) = tt
+
+  one_pulled : (a b : Wire Across) → PathTie p stub (pull a) → PathTie p stub (pull b) → root_ a ≡ root_ b → a ≡ b
+  unfolding root_
+  one_pulled a b first second same =
+      let (n, is) = path_pulled (pull a) first in
+      let (m, also) = path_pulled (pull b) second in
+      is ∙ ap left (left_once nets n m (sym (ap root_ is) ∙ same ∙ ap root_ also)) ∙ sym also
+
   pub switches : AreSwitchesOf nets (Wire Across) (PathTie p stub)
       (root Across nets root_of (across_root p root_of)) root_of
   unfolding root_
@@ -651,4 +674,5 @@ module _ (p : Path) (stub : ℕ → ℕ → Bool) (nets : Nets) (are : AreNetsOf
     pull_downs = λ n i inputs e c. down_there n i inputs ((are n (Nor inputs)).0 e) c;
     pull_ups = λ n inputs e. up_there n inputs ((are n (Nor inputs)).0 e);
     passes = λ n source ph e. pass_there n source ph ((are n (Latched ph source)).0 e);
+    one_pull_up = one_pulled;
   }
