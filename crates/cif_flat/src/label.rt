@@ -1,8 +1,7 @@
 //! Labels.
 
 ghost use Rattle.std.specs.Prelude.{◌≡◌, ◌≢◌, ◌<◌, ◌≤◌, ◌^◌, ℕ, List, ℤ, Option, All, length, take, drop, IfOk};
-ghost use Rattle.std.specs.Prelude.{IfSome, IfNone};
-ghost use Rattle.std.specs.Bool.{OnTrue, OnFalse};
+ghost use Rattle.std.specs.Prelude.{◌↔◌, IsTrue, IfSome, IfNone};
 ghost use Rattle.lam_geom.specs.declared.layer.Layer.{Layer};
 ghost use Rattle.cif_form.specs.declared.limits.TheConstants.{NUMBER_LIMIT};
 ghost use Rattle.cif_form.specs.Text.{Digits};
@@ -16,8 +15,7 @@ use mp_base::{Name, is_digit};
 use std::alloc::{AllocError, Global};
 
 fn is_space(byte: u8) -> bool
-    ensures space { OnTrue result (IsSpace byte) }
-    ensures other { OnFalse result (¬ IsSpace byte) }
+    ensures { IsTrue result ↔ IsSpace byte }
 {
     byte == b' ' || byte == b'\t' || byte == b'\n' || byte == b'\r'
 }

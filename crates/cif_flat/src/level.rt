@@ -1,8 +1,7 @@
 //! Lists of commands that are being walked.
 
-ghost use Rattle.std.specs.Prelude.{◌≡◌, ◌+◌, ◌<◌, Some, ◌≢◌};
+ghost use Rattle.std.specs.Prelude.{◌≡◌, ◌↔◌, ◌+◌, ◌<◌, IsTrue, Some};
 ghost use Rattle.cif_flat.specs.Walking.{top};
-ghost use Rattle.std.specs.Bool.{OnTrue, OnFalse};
 
 use cif_place::{Placement, Ratio};
 use lam_geom::Layer;
@@ -51,8 +50,7 @@ impl Level {
 
     /// Whether it is the body of a definition of this number.
     pub(crate) fn is_of(self, number: u64) -> bool
-        ensures yes { OnTrue result (self.symbol ≡ Some number) }
-        ensures no { OnFalse result (self.symbol ≢ Some number) }
+        ensures { IsTrue result ↔ (self.symbol ≡ Some number) }
     {
         match self.symbol {
             Some(symbol) => symbol == number,

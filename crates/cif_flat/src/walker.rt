@@ -1,8 +1,7 @@
 //! The walk.
 
 ghost use Rattle.std.specs.Prelude.{◌≡◌, ◌≢◌, ◌+◌, ◌^◌, ◌<◌, ◌≤◌, ◌++◌, ◌∷◌, [], ℕ, All, true, false, pos, ◌≤ℤ◌};
-ghost use Rattle.std.specs.Prelude.{length, map, slice_range, Some, IfOk, IfErr, OnOk};
-ghost use Rattle.std.specs.Bool.{OnTrue, OnFalse};
+ghost use Rattle.std.specs.Prelude.{◌↔◌, length, map, slice_range, IsTrue, Some, IfOk, IfErr, OnOk};
 ghost use Rattle.std.specs.BTreeMap.{get};
 ghost use Rattle.std.specs.Ordering.{nat_cmp};
 ghost use Rattle.cif_place.specs.Placing.{IsHeld};
@@ -187,8 +186,7 @@ impl Walker {
     /// Whether a definition of a number is being expanded.
     fn is_open(&self, level: Level, number: u64) -> bool
         requires { EachLevel (IsNumbered self.now.opened) (self.now.levels.items ++ level ∷ []) }
-        ensures open { OnTrue result (IsOpen (self.now.levels.items ++ level ∷ []) number) }
-        ensures closed { OnFalse result (¬ IsOpen (self.now.levels.items ++ level ∷ []) number) }
+        ensures { IsTrue result ↔ IsOpen (self.now.levels.items ++ level ∷ []) number }
     {
         if level.is_of(number) {
             return true;

@@ -19,7 +19,8 @@ use Rattle.cif_form.specs.Readers.{box_at, box_sized, box_long, round_of, wire_o
 use Rattle.cif_form.specs.Readers.{start_of, definition_from, layer_named, layer_from, user_of, command_from}
 use Rattle.cif_form.proofs.Numbers.{Finds, finds_both, Stops, integer_reads, integer_follows, separator_read, stops_at}
 use Rattle.cif_form.proofs.Numbers.{point_reads, point_follows, separator_follows}
-use Rattle.cif_form.proofs.Parts.{Ends, byte_and, ends_stop, ends_follow, blanks_past, tail_left, tail_found, path_reads}
+use Rattle.cif_form.proofs.Parts.{Ends, byte_and, ends_stop, ends_follow, blanks_past, tail_left, tail_found}
+use Rattle.cif_form.proofs.Parts.{path_reads}
 use Rattle.cif_form.proofs.Parts.{path_size, turns_read, turns_stop, turns_size, name_reads, name_past, comment_reads}
 
 -- ---- the pieces, each with a function of what it finds

@@ -1,8 +1,7 @@
 //! Scales.
 
-ghost use Rattle.std.specs.Prelude.{◌≡◌, ◌≢◌, ◌^◌, ℤ, ◌+ℤ◌, ◌-ℤ◌, ◌*ℤ◌, ◌<ℤ◌, pos, IfSome, IfNone};
+ghost use Rattle.std.specs.Prelude.{◌≡◌, ◌≢◌, ◌↔◌, ◌^◌, ℤ, ◌+ℤ◌, ◌-ℤ◌, ◌*ℤ◌, ◌<ℤ◌, pos, IsTrue, IfSome, IfNone};
 ghost use Rattle.cif_form.specs.Place.{IsScale, IsScaled};
-ghost use Rattle.std.specs.Bool.{OnTrue, OnFalse};
 ghost use Rattle.cif_place.specs.Placing.{IsWithin, IsShort, IsFitRatio, scale_of};
 
 /// The scale a/b of a definition.
@@ -53,8 +52,7 @@ impl Ratio {
 
     /// Whether it has no 0 or less in it.
     pub fn is_scale(self) -> bool
-        ensures yes { OnTrue result (IsScale (scale_of self)) }
-        ensures no { OnFalse result (¬ IsScale (scale_of self)) }
+        ensures { IsTrue result ↔ IsScale (scale_of self) }
     {
         if self.a <= 0 {
             return false;
@@ -64,8 +62,7 @@ impl Ratio {
 
     /// Whether it has the same two numbers.
     pub fn is_same(self, other: Ratio) -> bool
-        ensures same { OnTrue result (self ≡ other) }
-        ensures other { OnFalse result (self ≢ other) }
+        ensures { IsTrue result ↔ (self ≡ other) }
     {
         if self.a != other.a {
             return false;

@@ -437,7 +437,8 @@ module _ (r : Rtl) (p : DataPath) (sound : IsSound r) (tame : IsTame r) (a : IsA
       → Rattle.control_nor.specs.Lowering.InputBit p.control id pad
   bit_pad c i x id pad at is on is_pad word =
       let q = pad_at c i x at is in
-      let named = (a.lowered.pad_names i q.0 q.1).0 (eqb-true q.0.width 0 (not-false (q.0.width == 0) (sym q.3 ∙ word))) in
+      let is_bit : (q.0.width == 0) ≡ true = not-false (q.0.width == 0) (sym q.3 ∙ word) in
+      let named = (a.lowered.pad_names i q.0 q.1).0 (eqb-true q.0.width 0 is_bit) in
       let same : named.0 ≡ pad = same_Some named.0 pad (sym (a.bit_ports i named.0 named.1) ∙ is_pad) in
       subst (Rattle.control_nor.specs.Lowering.InputBit p.control id) same
       (a.lowered.ports c i x id named.0 at is on named.1)

@@ -1,5 +1,6 @@
 -- What a run with the program's parts promises, from what a run promises with parts that are lent.
-use Rattle.std.proofs.Common.{◌≡◌, ◌∙◌, ℕ, List, [], ◌∷◌, ◌++◌, Option, Some, None, Result, Ok, Err, ap, refl, subst, sym}
+use Rattle.std.proofs.Common.{◌≡◌, ◌∙◌, ℕ, List, [], ◌∷◌, ◌++◌, Option, Some, None, Result, Ok, Err, ap, refl, subst}
+use Rattle.std.proofs.Common.{sym}
 use Rattle.std.specs.Prelude.{MatchResult}
 use Rattle.command_line.specs.Command.{Command, Make}
 use Rattle.outside.specs.Outside.{Files, WhereTold, Keeps}

@@ -1,4 +1,4 @@
-use Rattle.std.proofs.Common.{◌∙◌, sym, subst, map}
+use Rattle.std.proofs.Common.{◌∙◌, refl, sym, subst, map}
 use Rattle.cif_list.specs.Turning.{wide_turn}
 use Rattle.cif_place.specs.Placing.{scale_of}
 use Rattle.cif_place.specs.Turning.{IsTurned}
@@ -11,7 +11,7 @@ returns-then-is_same-clause-turned c =
     (map wide_turn c.args.turns.now) c.in-Some.composed c.requires.calls c.requires.at
     (sym c.found.ensures ∙ c.in-Some.is) in
     subst (λ r. IsTurned (scale_of r) (map wide_turn c.args.turns.now) c.in-Some.composed.turned)
-    c.if-is_same.ensures.same f.0
+    (c.if-is_same.ensures.0 refl) f.0
 
 pub returns-then-is_same-clause-held : goal.returns-then-is_same-clause-held
 returns-then-is_same-clause-held c =

@@ -1,4 +1,5 @@
-use Rattle.std.proofs.Common.{◌∙◌, sym, subst, map}
+use Rattle.std.proofs.Common.{◌∙◌, refl, sym, subst, map}
+use Rattle.std.proofs.lemmas.Bool.{false≢true}
 use Rattle.cif_list.specs.Turning.{wide_turn}
 use Rattle.cif_place.specs.Placing.{scale_of}
 use Rattle.cif_flat.specs.Refusing.{RefusesWalk}
@@ -17,7 +18,7 @@ pub returns-then-is_open-clause-err : goal.returns-then-is_open-clause-err
 returns-then-is_open-clause-err c = subst (RefusesWalk c.args.items.now) (sym c.broken-then-is_open.ensures)
     (call_open c.args.items.now c.args.self.now c.args.level c.args.offset c.args.number.now
     (map wide_turn c.args.turns.now) c.requires c.key_of-number.result c.key_of-number.ensures c.in-Some.symbol
-    (sym c.found.ensures ∙ c.in-Some.is) c.if-is_open.ensures.open)
+    (sym c.found.ensures ∙ c.in-Some.is) (c.if-is_open.ensures.0 refl))
 
 pub turned_at-requires-clause-fit : goal.turned_at-requires-clause-fit
 turned_at-requires-clause-fit c = ratio_here c.args.items.now c.args.self.now c.args.level _ c.requires
@@ -39,7 +40,7 @@ pub returns-in-Err-clause-err : goal.returns-in-Err-clause-err
 returns-in-Err-clause-err c = subst (RefusesWalk c.args.items.now) (sym c.broken-in-Err.ensures)
     (call_fault c.args.items.now c.args.self.now c.args.level c.args.offset c.args.number.now
     (map wide_turn c.args.turns.now) c.requires c.key_of-number.result c.key_of-number.ensures c.in-Some.symbol
-    (sym c.found.ensures ∙ c.in-Some.is) c.if-is_open.ensures.closed c.in-Err.fault
+    (sym c.found.ensures ∙ c.in-Some.is) (λ o. false≢true (c.if-is_open.ensures.1 o)) c.in-Err.fault
     (c.in-Err.ensures.called (scale_of c.args.level.ratio)
     (map wide_turn c.args.turns.now) c.in_ok-turned.ensures.turned))
 
@@ -50,7 +51,7 @@ returns-in_ok-enter-in-Ok-clause-ok c =
     let e = c.in_ok-enter-in-Ok.ensures in
     call_entered c.args.items.now c.args.self.now c.args.level c.args.offset c.args.number.now
     (map wide_turn c.args.turns.now) c.requires c.key_of-number.result c.key_of-number.ensures c.in-Some.symbol
-    (sym c.found.ensures ∙ c.in-Some.is) c.if-is_open.ensures.closed c.in-Ok.placement a
+    (sym c.found.ensures ∙ c.in-Some.is) (λ o. false≢true (c.if-is_open.ensures.1 o)) c.in-Ok.placement a
     (c.in-Ok.ensures.held c.in_ok-turned.ensures.held)
     c.enter.new.self.opened e.here e.others c.placements_compose.ensures.after c.placements_compose.ensures.held
     c.enter.new.self c.turned_at.new.calls c.in_ok-turned.ensures.calls e.kept e.pushed
