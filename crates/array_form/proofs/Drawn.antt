@@ -308,8 +308,8 @@ module _ (W : Type 0) (In : W → Type 0) (T : Tie W → Type 0) (f : Plan) (law
       pulled_up (switch_of k) (get_or network.channels k c) (member_contains f.marks (switch_of k) member.0)
       (zip_at (IsSwitch f number) (filter is_switch f.marks) network.channels are.channels k no_mark c inside) kind
 
-  alone : AllPairs PullUpsApart network.channels
-  alone i j c less within up also same =
+  pull_ups_apart : AllPairs PullUpsApart network.channels
+  pull_ups_apart i j c less within up also same =
       let many = many_switches in
       two_nodes (switch_of i) (switch_of j) (get_or network.channels i c) (get_or network.channels j c)
       (pulled_up_at i c (omega (arith, less, within)) up) (pulled_up_at j c within also)
@@ -345,7 +345,7 @@ module _ (W : Type 0) (In : W → Type 0) (T : Tie W → Type 0) (f : Plan) (law
         let m = switch_at c i in
         let t = named.marked m.0 m.1 (under_is_no_switch m.0 m.2) in
         drawn_at m.0 t.0 t.1 t.2 m.2 c m.3 (switches.only t.0 t.1);
-    alone = alone;
+    alone = pull_ups_apart;
   }
 
   -- the node of a net is that of its segment, wherever the segment's root is the net's
