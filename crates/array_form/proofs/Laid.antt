@@ -17,7 +17,7 @@ use Rattle.fabric.specs.declared.thing.Side.TheVariants.{L, R}
 use Rattle.fabric.specs.declared.thing.Segment.{Segment}
 use Rattle.fabric.specs.declared.thing.Line.{Line}
 use Rattle.fabric.specs.declared.thing.Mark.{Mark}
-use Rattle.fabric.specs.Plan.{Plan, bands, rows_of, IsFabric, IsSegment, IsLine}
+use Rattle.fabric.specs.Plan.{Plan, rows_of, IsFabric, IsSegment, IsLine}
 use Rattle.fabric.specs.Plan.{IsMark, Stands, LineAt, SegmentAt, LinesApart, SegmentsApart, MarksApart}
 use Rattle.nor_net.specs.declared.net.Phase.{Phase}
 use Rattle.nor_net.specs.declared.net.Phase.TheVariants.{A, B, C}

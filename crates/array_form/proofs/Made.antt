@@ -15,7 +15,7 @@ use Rattle.fabric.specs.declared.thing.Mark.{Mark}
 use Rattle.fabric.specs.Plan.{Plan, IsFabric, IsSegment, IsLine, LinesApart, SegmentsApart}
 use Rattle.fabric.specs.Switches.{Net, segment, line, ground, power, IsNet, LineOf, SegmentOf, IsTapOn}
 use Rattle.array_form.specs.Named.{Tie, tap, tran, pull, IsAt, IsNamed, Speaks}
-use Rattle.array_form.specs.Wires.{Wire, row, to_ground, to_power}
+use Rattle.array_form.specs.Wires.{Wire, to_ground, to_power}
 use Rattle.array_form.specs.Lists.{Layout, net_of, mark_of, Crossing, IsLineAt, IsSegmentAt, IsMadeOf, InLists}
 use Rattle.array_form.specs.Lists.{tap_tile}
 
