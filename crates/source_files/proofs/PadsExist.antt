@@ -1,5 +1,5 @@
 -- A program that breaks no rule has pads.
-use Rattle.std.proofs.Common.{◌≡◌, ◌≤◌, List, map, inl, refl, arith}
+use Rattle.std.proofs.Common.{◌≡◌, ◌≤◌, Bool, List, map, inl, refl, arith}
 use Rattle.std.specs.Prelude.{filter}
 use Rattle.std.proofs.lemmas.Simd.{map-map}
 use Rattle.mp_base.specs.declared.refusal.Place.{Place}
