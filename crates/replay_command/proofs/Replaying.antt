@@ -3,6 +3,7 @@ use Rattle.std.proofs.Common.{◌++◌, ℕ, List, refl, sym, subst, Option, Som
 use Rattle.outside.specs.Outside.{Files, bytes_of}
 use Rattle.mp_base.specs.declared.value.Trit.TheVariants.{X}
 use Rattle.mp_program.specs.declared.program.Program.{Program}
+use Rattle.mp_program.specs.Pads.{ArePadsOf}
 use Rattle.mp_program.proofs.Faces.{kept_pads}
 use Rattle.mp_checker.specs.Checking.{CheckedProgram}
 use Rattle.switch_net.specs.declared.network.Network.{Network}
