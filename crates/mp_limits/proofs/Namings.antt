@@ -1,5 +1,5 @@
 -- The definitions and processes that have a name.
-use Rattle.std.proofs.Common.{◌≡◌, ◌⊎◌, inl, inr, [], Bool, true}
+use Rattle.std.proofs.Common.{◌≡◌, ◌⊎◌, inl, inr, Bool, true}
 use Rattle.std.specs.Prelude.{map, filter, not, Contains}
 use Rattle.std.proofs.lemmas.List.Elements.{Contains-append_left, Contains-append_right, Contains-append_cases}
 use Rattle.mp_base.proofs.Contents.{contains_map, contains_from_map, contains_from_filter, contains_filter}

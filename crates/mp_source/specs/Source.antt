@@ -4,8 +4,6 @@ use Rattle.mp_base.specs.declared.refusal.Place.{Place}
 use Rattle.mp_base.specs.declared.refusal.Broken.{Broken}
 use Rattle.mp_base.specs.declared.refusal.Family.TheVariants.{E}
 use Rattle.mp_base.specs.declared.refusal.Spot.TheVariants.{At}
-use Rattle.mp_base.specs.declared.refusal.Refusal.{Refusal}
-use Rattle.mp_base.specs.declared.refusal.Refusal.TheVariants as refusals
 use Rattle.form_reader.specs.declared.forms.Forms.{Forms}
 use Rattle.form_reader.specs.Text.{place_at}
 use Rattle.form_reader.specs.Spelling.{Spells}

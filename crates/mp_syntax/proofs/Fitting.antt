@@ -19,9 +19,7 @@ use Rattle.mp_shapes.specs.declared.table.Layout.TheVariants as layouts
 use Rattle.mp_shapes.specs.Layout.{layout, item_class, word_of, is_symbol, behind_number}
 use Rattle.mp_shapes.specs.Layout as shapes
 use Rattle.mp_shapes.specs.Standing.{StandsFor, root, AreClasses}
-use Rattle.mp_program.specs.declared.program.ExprKind.{ExprKind}
 use Rattle.mp_program.specs.declared.program.ExprKind.TheVariants as exprs
-use Rattle.mp_program.specs.declared.program.Branch.{Branch}
 use Rattle.mp_program.specs.declared.program.Def.{Def}
 use Rattle.mp_program.specs.declared.program.Expr.{Expr}
 use Rattle.mp_program.specs.declared.program.Form.{Form}

@@ -1,5 +1,5 @@
 -- Forms are the shape of one program at most, and then keep the rules.
-use Rattle.std.proofs.Common.{◌≡◌, ◌⊎◌, inl, inr, ℕ, ◌≤◌, Bool, true, List, [], refl, sym, ◌∙◌, ap}
+use Rattle.std.proofs.Common.{◌≡◌, ◌⊎◌, inl, inr, ℕ, ◌≤◌, Bool, true, List, refl, sym, ◌∙◌, ap}
 use Rattle.std.proofs.Common.{subst, length, map, arith, drop, Option, Some, None, slice_index, slice_index_or, ◌&&◌}
 use Rattle.std.proofs.Common.{nat_lt, nat_le}
 use Rattle.std.specs.List.{list_all, filter_map, flat_map}

@@ -34,7 +34,7 @@ use Rattle.std.specs.List.{sum_by}
 use Rattle.std.proofs.lemmas.Bool.{eqb-true, eq-eqb, ne_eqb, or_left, or_right, and_from}
 use Rattle.std.proofs.lemmas.List.Elements.{Contains-append_left, Contains-append_right, Contains-append_cases}
 use Rattle.std.proofs.lemmas.List.Sums.{sum_by-cons, sum_by-append}
-use Rattle.mp_base.proofs.Contents.{contains_behind as there, nothing_in, only_one, contains_from_map, contains_filter}
+use Rattle.mp_base.proofs.Contents.{nothing_in, only_one, contains_from_map, contains_filter}
 use Rattle.mp_base.proofs.Contents.{contains_from_filter, contains_map}
 use Rattle.mp_base.proofs.Induction.{by_test}
 use Rattle.std.proofs.lemmas.Option.{same_Some, none-some}

@@ -13,7 +13,7 @@ use Rattle.fabric.specs.Plan.{Passes, Crosses}
 use Rattle.nor_net.specs.declared.net.Part.{Part}
 use Rattle.nor_net.specs.declared.net.Part.TheVariants.{Input, Gate, Latch}
 use Rattle.array_form.specs.Named.{Tie}
-use Rattle.array_form.specs.Wires.{Wire, row}
+use Rattle.array_form.specs.Wires.{Wire}
 use Rattle.array_form.specs.Lists.{Layout, Crossing, upright}
 use Rattle.array_form.specs.Homes.{home, marks, phase_marks, phase_number}
 use Rattle.array_form.specs.Laying.{AreTracks, band_segment}

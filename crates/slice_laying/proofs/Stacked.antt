@@ -21,7 +21,7 @@ use Rattle.nor_net.specs.declared.net.NetId.{NetId}
 use Rattle.nor_net.specs.declared.net.Phase.{Phase}
 use Rattle.nor_net.specs.Shape.{IsNet, MayFeed}
 use Rattle.array_form.specs.Band.{inputs_of}
-use Rattle.array_form.specs.Homes.{Columns, home, end_of, marks}
+use Rattle.array_form.specs.Homes.{Columns, home, end_of}
 use Rattle.array_form.specs.Laying.{AreTracks, HasRoom, with_net, band_segment, band_segments, band_lines, band_marks}
 use Rattle.array_form.specs.Laying.{column_lines, column_marks}
 use Rattle.array_form.specs.Lists.{mark, upright}

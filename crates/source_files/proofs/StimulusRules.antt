@@ -8,7 +8,6 @@ use Rattle.mp_base.specs.declared.refusal.Family.{Family}
 use Rattle.mp_base.specs.declared.refusal.Spot.{Spot}
 use Rattle.mp_base.specs.declared.refusal.Spot.TheVariants.{At, Offset, Named, Nowhere}
 use Rattle.mp_base.specs.declared.refusal.Refusal.{Refusal}
-use Rattle.mp_base.specs.declared.refusal.Refusal.TheVariants as refusal
 use Rattle.mp_base.specs.declared.pad.Pad.{Pad}
 use Rattle.mp_base.specs.declared.pad.Pads.{Pads}
 use Rattle.mp_base.specs.Refuses.{SpotIs}
