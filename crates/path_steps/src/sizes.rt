@@ -1,14 +1,17 @@
 //! How large paths and their flat nets are.
 
 ghost use Rattle.std.specs.Prelude.{◌≤◌, ◌+◌, ◌*◌, IfOk};
+ghost use Rattle.mp_program.specs.Weight.{weight};
 ghost use Rattle.rtl_form.specs.Cost.{cost};
 ghost use Rattle.rtl_form.specs.Sound.{IsSound};
 ghost use Rattle.path_form.specs.Sizes.{IsWithin};
 ghost use Rattle.mp_base.specs.declared.limits.TheConstants.{WEIGHT_LIMIT};
 
 use crate::cost::cost_of;
+use crate::steps::transfers_of;
 use datapath_alloc::allocate;
 use mp_base::NoMemory;
+use mp_checker::Checked;
 use path_flat::flatten;
 use path_form::DataPath;
 use rtl_form::Rtl;
@@ -42,12 +45,8 @@ fn flat_size(alloc: Global, path: &DataPath) -> Result<u32, NoMemory> {
     Ok(flat.net.len())
 }
 
-/// The sizes of the path of transfers.
-///
-/// # Errors
-///
-/// `NoMemory`.
-pub fn sizes_of(alloc: Global, rtl: &Rtl) -> Result<Sizes, NoMemory>
+// The sizes of the path of transfers.
+fn sizes_of_transfers(alloc: Global, rtl: &Rtl) -> Result<Sizes, NoMemory>
     requires sound { IsSound rtl.now }
     requires light { cost rtl.now ≤ WEIGHT_LIMIT }
     ensures control { IfOk result (λ sizes. sizes.control ≤ 2 * cost rtl.now) }
@@ -65,4 +64,19 @@ pub fn sizes_of(alloc: Global, rtl: &Rtl) -> Result<Sizes, NoMemory>
         lifts: path.lifts.len(),
         flat,
     })
+}
+
+/// The sizes of the path of a checked program.
+///
+/// # Errors
+///
+/// `NoMemory`.
+pub fn sizes_of(alloc: Global, checked: &Checked) -> Result<Sizes, NoMemory>
+    ensures control { IfOk result (λ sizes. sizes.control ≤ 2 * weight checked.now.program) }
+    ensures slice { IfOk result (λ sizes. sizes.slice ≤ weight checked.now.program) }
+    ensures joints { IfOk result (λ sizes. sizes.chains + sizes.casts + sizes.lifts ≤ weight checked.now.program) }
+{
+    let rtl = transfers_of(alloc, checked)?;
+    let sizes = sizes_of_transfers(alloc, &rtl)?;
+    Ok(sizes)
 }
