@@ -1,10 +1,10 @@
 //! How large paths and their flat nets are.
 
 ghost use Rattle.std.specs.Prelude.{◌≤◌, ◌+◌, ◌*◌, IfOk};
-ghost use Rattle.mp_program.specs.Weight.{weight};
 ghost use Rattle.rtl_form.specs.Cost.{cost};
 ghost use Rattle.rtl_form.specs.Sound.{IsSound};
 ghost use Rattle.path_form.specs.Sizes.{IsWithin};
+ghost use Rattle.path_steps.specs.Within.{AreWithin};
 ghost use Rattle.mp_base.specs.declared.limits.TheConstants.{WEIGHT_LIMIT};
 
 use crate::cost::cost_of;
@@ -72,9 +72,7 @@ fn sizes_of_transfers(alloc: Global, rtl: &Rtl) -> Result<Sizes, NoMemory>
 ///
 /// `NoMemory`.
 pub fn sizes_of(alloc: Global, checked: &Checked) -> Result<Sizes, NoMemory>
-    ensures control { IfOk result (λ sizes. sizes.control ≤ 2 * weight checked.now.program) }
-    ensures slice { IfOk result (λ sizes. sizes.slice ≤ weight checked.now.program) }
-    ensures joints { IfOk result (λ sizes. sizes.chains + sizes.casts + sizes.lifts ≤ weight checked.now.program) }
+    ensures { IfOk result (AreWithin checked.now.program) }
 {
     let rtl = transfers_of(alloc, checked)?;
     let sizes = sizes_of_transfers(alloc, &rtl)?;
