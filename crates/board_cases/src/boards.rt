@@ -7,7 +7,7 @@ use crate::joined::{told_by, with};
 use crate::row::Row;
 use crate::watch::Watch;
 use board::{Board, Link, NamedPart, read_links};
-use board_parts::{Counter, Echo, Memory, Shifter};
+use board_parts::Echo;
 use mp_base::{Broken, List, Pads, Refusal, Spot};
 use mp_checker::Checked;
 use mp_source::check_source;
@@ -16,11 +16,10 @@ use std::alloc::{AllocError, Global};
 use std::{fs, io};
 use trace_run::Source;
 
-/// What a board printed, whether a write failed, and what its parts drive afterwards.
+/// What a board printed, and what its parts drive afterwards.
 #[derive(Drop)]
 struct Outcome {
     printed: Vec<u8>,
-    failed: bool,
     told: String,
 }
 
@@ -35,14 +34,6 @@ fn words_of(alloc: Global, text: &str) -> Result<Vec<String>, AllocError> {
     let mut words = Vec::new(alloc);
     add_words(alloc, &mut words, text)?;
     Ok(words)
-}
-
-fn sink(alloc: Global, call: Option<u64>) -> Result<MemSink, AllocError> {
-    let mut calls = List::new(alloc);
-    if let Some(call) = call {
-        calls.push(call)?;
-    }
-    Ok(MemSink::new(alloc, calls))
 }
 
 // A program of few bytes and few pads.
@@ -70,7 +61,7 @@ fn links_of(
     read_links(alloc, &words, parts, pads)
 }
 
-// Runs a program on a board that has run no clock, with these parts. Whether the output failed.
+// Runs a program on a board that has run no clock, with these parts.
 fn run_on(
     alloc: Global,
     checked: &Checked,
@@ -78,25 +69,25 @@ fn run_on(
     parts: &mut Vec<NamedPart>,
     clocks: u32,
     out: &mut MemSink,
-) -> Result<bool, Refusal>
+) -> Result<(), Refusal>
     requires pads { checked.now.pads ≡ board.old.wired.pads }
     requires parts { All (λ l. l.part < length parts.old.items) board.old.wired.links }
     requires done { board.old.done ≡ 0 }
 {
     let mut device = Source::open(alloc, checked, checked.pads())?;
-    let failed = board.run(&mut device, parts, clocks, out).is_err();
+    let _written = board.run(&mut device, parts, clocks, out);
     drop(device);
-    Ok(failed)
+    Ok(())
 }
 
-// Runs a program on a board with these parts. Whether the output failed.
+// Runs a program on a board with these parts.
 fn run(
     alloc: Global,
     checked: &Checked,
     row: Row<'_>,
     parts: &mut Vec<NamedPart>,
     out: &mut MemSink,
-) -> Result<bool, Refusal> {
+) -> Result<(), Refusal> {
     let pads = checked.pads();
     if pads.inputs.len() > 9 || pads.outputs.len() > 9 || parts.len() > 9 {
         return Err(Refusal::NoMemory);
@@ -107,51 +98,34 @@ fn run(
 }
 
 // What was printed, and what the parts drive then.
-fn outcome_after(
-    alloc: Global,
-    printed: &[u8],
-    failed: bool,
-    parts: &[NamedPart],
-) -> Result<Outcome, Refusal> {
+fn outcome_after(alloc: Global, printed: &[u8], parts: &[NamedPart]) -> Result<Outcome, Refusal> {
     let printed = Vec::from_slice(alloc, printed)?;
     let told = told_by(alloc, parts)?;
-    Ok(Outcome {
-        printed,
-        failed,
-        told,
-    })
+    Ok(Outcome { printed, told })
 }
 
-// Runs the program of a row with these parts, where one write fails.
+// Runs the program of a row with these parts.
 fn outcome_with(
     alloc: Global,
     checked: &Checked,
     row: Row<'_>,
-    call: Option<u64>,
     parts: &mut Vec<NamedPart>,
 ) -> Result<Outcome, Refusal> {
-    let mut out = sink(alloc, call)?;
-    let failed = run(alloc, checked, row, parts, &mut out)?;
-    outcome_after(alloc, out.bytes(), failed, parts)
+    let mut out = MemSink::new(alloc, List::new(alloc));
+    run(alloc, checked, row, parts, &mut out)?;
+    outcome_after(alloc, out.bytes(), parts)
 }
 
-// Runs the program of a row with a counter, a shifter, an echo, a memory, a part that counts its moves, and a second
-// part of the name `echo`, where one write fails.
+// Runs the program of a row with a part that counts its moves and an echo.
 fn outcome_of(
     alloc: Global,
     checked: &Checked,
     row: Row<'_>,
-    call: Option<u64>,
 ) -> Result<Result<Outcome, Refusal>, AllocError> {
-    let parts = Vec::new(alloc);
-    let parts = with(alloc, parts, "counter", Box::new(alloc, Counter::new())?)?;
-    let parts = with(alloc, parts, "shifter", Box::new(alloc, Shifter::new())?)?;
-    let parts = with(alloc, parts, "echo", Box::new(alloc, Echo::new())?)?;
-    let parts = with(alloc, parts, "memory", Box::new(alloc, Memory::new())?)?;
     let watch = Watch { moves: 0, seen: 0 };
-    let parts = with(alloc, parts, "watch", Box::new(alloc, watch)?)?;
-    let mut parts = with(alloc, parts, "echo", Box::new(alloc, Counter::new())?)?;
-    Ok(outcome_with(alloc, checked, row, call, &mut parts))
+    let parts = with(alloc, Vec::new(alloc), "watch", Box::new(alloc, watch)?)?;
+    let mut parts = with(alloc, parts, "echo", Box::new(alloc, Echo::new())?)?;
+    Ok(outcome_with(alloc, checked, row, &mut parts))
 }
 
 fn show_broken(rt: &HostRuntime, broken: &Broken) -> io::Result<()> {
@@ -180,88 +154,14 @@ fn show_lines(rt: &HostRuntime, text: &[u8]) -> io::Result<()> {
     Ok(())
 }
 
-fn lines_in(text: &[u8]) -> u64 {
-    let mut lines = 0u64;
-    for byte in text {
-        if *byte == b'\n' {
-            lines = lines.wrapping_add(1);
-        }
-    }
-    lines
-}
-
-// How many whole lines are there after a write that failed, and the parts then.
-fn show_cut(rt: &HostRuntime, outcome: &Outcome, whole: &[u8]) -> io::Result<()> {
-    let (printed, told) = (outcome.printed.as_slice(), outcome.told.as_str());
-    if whole.starts_with(printed) && printed.len() < whole.len() {
-        let lines = lines_in(printed);
-        println!(rt; "    cut after {lines} lines\n   {told}")
-    } else {
-        println!(rt; "    another text\n   {told}")
-    }
-}
-
-// Tells a run of which a write failed, if it printed more lines than the last that was told, and whether one failed.
-fn show_next(
-    rt: &HostRuntime,
-    outcome: &Outcome,
-    whole: &[u8],
-    told: &mut Option<u64>,
-) -> io::Result<bool> {
-    let lines = Some(lines_in(&outcome.printed));
-    if outcome.failed && lines != *told {
-        *told = lines;
-        show_cut(rt, outcome, whole)?;
-    }
-    Ok(outcome.failed)
-}
-
-// Tells the run in which this write fails. Whether one did.
-fn show_call(
-    rt: &HostRuntime,
-    checked: &Checked,
-    row: Row<'_>,
-    call: u64,
-    whole: &[u8],
-    told: &mut Option<u64>,
-) -> io::Result<bool> {
-    match outcome_of(rt.alloc(), checked, row, Some(call))? {
-        Ok(outcome) => show_next(rt, &outcome, whole, told),
-        Err(refusal) => {
-            show_refusal(rt, &refusal)?;
-            Ok(false)
-        }
-    }
-}
-
-// Each write fails in turn. Those in one line are told once.
-fn show_cuts(rt: &HostRuntime, checked: &Checked, row: Row<'_>, whole: &[u8]) -> io::Result<()> {
-    let mut told = None;
-    for call in 0..1000 {
-        if !show_call(rt, checked, row, call, whole, &mut told)? {
-            return Ok(());
-        }
-    }
-    Ok(())
-}
-
-fn show_outcome(
-    rt: &HostRuntime,
-    checked: &Checked,
-    row: Row<'_>,
-    outcome: &Outcome,
-) -> io::Result<()> {
+fn show_outcome(rt: &HostRuntime, outcome: &Outcome) -> io::Result<()> {
     show_lines(rt, &outcome.printed)?;
-    println!(rt; "   {}", outcome.told)?;
-    if row.fails {
-        show_cuts(rt, checked, row, &outcome.printed)?;
-    }
-    Ok(())
+    println!(rt; "   {}", outcome.told)
 }
 
 fn show_run(rt: &HostRuntime, checked: &Checked, row: Row<'_>) -> io::Result<()> {
-    match outcome_of(rt.alloc(), checked, row, None)? {
-        Ok(outcome) => show_outcome(rt, checked, row, &outcome),
+    match outcome_of(rt.alloc(), checked, row)? {
+        Ok(outcome) => show_outcome(rt, &outcome),
         Err(refusal) => show_refusal(rt, &refusal),
     }
 }

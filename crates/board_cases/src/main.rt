@@ -1,4 +1,4 @@
-//! Programs on boards, each joined to parts.
+//! Programs on boards with a part that counts its moves.
 #![tactic(auto)]
 
 mod boards;

@@ -1,12 +1,11 @@
 //! Rows of the table.
 
-/// A program, how many clocks it runs, the words of its links, and whether each write fails in turn.
+/// A program, how many clocks it runs, and the words of its links.
 #[derive(Clone, Copy)]
 pub(crate) struct Row<'a> {
     pub source: &'a str,
     pub clocks: u32,
     pub links: &'a str,
-    pub fails: bool,
 }
 
 // A part of a line, of which `|` ends each but the last.
@@ -20,6 +19,5 @@ pub(crate) fn row_of(line: &str) -> Row<'_> {
         source: field(line, 0),
         clocks: field(line, 1).parse::<u32>().unwrap_or(0),
         links: field(line, 2),
-        fails: field(line, 3) == "fails",
     }
 }

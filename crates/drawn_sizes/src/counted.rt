@@ -119,3 +119,41 @@ pub fn is_size_at_end(alloc: Global, masks: &[u8], stimulus: &[u8], line: &str) 
         None => false,
     }
 }
+
+// The counts before the first clock and at the end.
+fn push_counts_around(
+    alloc: Global,
+    line: &mut Vec<u8>,
+    simulation: &mut Simulation<'_>,
+) -> Option<()> {
+    push_counts(line, simulation.values()).ok()?;
+    push_counts_of(alloc, line, simulation)
+}
+
+// The same of a network, all of whose nodes are X at first.
+fn counts_behind(alloc: Global, network: Network, given: &Stimulus) -> Option<Vec<u8>>
+    requires inputs { length given.now.pads.inputs < 2 ^ 32 }
+    requires clocks { length given.now.clocks < 2 ^ 32 }
+{
+    let mut simulation = Simulation::open(alloc, network, given).ok()?;
+    let mut line = Vec::new(alloc);
+    let pushed = push_counts_around(alloc, &mut line, &mut simulation);
+    drop(simulation);
+    pushed?;
+    Some(line)
+}
+
+// The same of the network of masks, if the stimulus is small.
+fn counts_along(alloc: Global, masks: &[u8], given: &Stimulus) -> Option<Vec<u8>> {
+    if is_small(given) {
+        counts_behind(alloc, drawn(alloc, masks)?, given)
+    } else {
+        None
+    }
+}
+
+/// How many nodes of masks are at 1 and unknown before the first clock of a stimulus, and at its end.
+pub fn counts_around(alloc: Global, masks: &[u8], stimulus: &[u8]) -> Option<Vec<u8>> {
+    let given = stimulus_of(alloc, stimulus)?;
+    counts_along(alloc, masks, &given)
+}

@@ -4,5 +4,5 @@
 mod counted;
 mod sized;
 
-pub use counted::is_size_at_end;
+pub use counted::{counts_around, is_size_at_end};
 pub use sized::is_size_of_chip;

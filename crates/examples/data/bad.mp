@@ -1,1 +1,1 @@
-(program x 33)
+(program x 65)

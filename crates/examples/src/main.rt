@@ -1,9 +1,7 @@
-//! Runs of the whole program over files in memory: whether each example prints what stands beside it; of lists of runs,
-//! how each ends, what it prints and what it writes; and exit statuses over the system's files.
+//! Runs of the whole program over files in memory, as lists say: how each ends, what it prints and what it writes; and
+//! exit statuses over the system's files.
 #![tactic(auto)]
 
-use example_runs::show_examples;
-use made_runs::show_numbers;
 use outcome::Status;
 use outside::{Depot, Sink};
 use run_ends::Runner;
@@ -34,13 +32,25 @@ impl Exits for Whole {
     }
 }
 
+/// The lists of runs, each a file.
+const LISTS: [&str; 14] = [
+    "examples.txt",
+    "sources.txt",
+    "texts.txt",
+    "stimuli.txt",
+    "transfers.txt",
+    "masks.txt",
+    "cif.txt",
+    "drawn.txt",
+    "circuits.txt",
+    "words.txt",
+    "commands.txt",
+    "chips.txt",
+    "boards.txt",
+    "made.txt",
+];
+
 fn main(rt: HostRuntime) -> io::Result<()> {
-    show_examples(&rt, &Whole, "examples.txt")?;
-    show_lists(
-        &rt,
-        &Whole,
-        &["sources.txt", "masks.txt", "words.txt", "chips.txt"],
-    )?;
-    show_numbers(&rt, &Whole, "numbers.txt")?;
+    show_lists(&rt, &Whole, &LISTS)?;
     show_exits(&rt, &Whole, "exits.txt")
 }

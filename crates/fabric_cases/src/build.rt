@@ -1,8 +1,8 @@
 //! Lines of text to fabrics.
 
+use crate::fits::{is_room, takes_line, takes_mark, takes_segment};
 use crate::read::{Thing, number, thing_of, words_of};
 use fabric::Fabric;
-use fabric_fits::{is_room, takes_line, takes_mark, takes_segment};
 use mp_base::{List, NoMemory};
 use std::alloc::Global;
 

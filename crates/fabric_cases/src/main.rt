@@ -1,11 +1,18 @@
-//! Fabrics of a file, each a line: the network that each draws, and the one that its segments, lines and marks mean.
+//! Fabrics of a file, each a line: the network that each draws, and the one that its segments, lines and marks mean; and
+//! the text of a chip, and the strips of drawings.
 #![tactic(auto)]
 
 mod answer;
 mod build;
+mod chip;
+mod fits;
+mod layers;
+mod pieces;
 mod read;
 
 use answer::answer;
+use layers::show_drawings;
+use pieces::show_chip;
 use std::{fs, io};
 
 // Each line of this file is a fabric.
@@ -23,5 +30,7 @@ fn show_fabrics(rt: &HostRuntime, name: &str) -> io::Result<()> {
 
 fn main(rt: HostRuntime) -> io::Result<()> {
     show_fabrics(&rt, "worked.txt")?;
-    show_fabrics(&rt, "random.txt")
+    show_fabrics(&rt, "random.txt")?;
+    show_chip(&rt)?;
+    show_drawings(&rt, "layers.txt")
 }

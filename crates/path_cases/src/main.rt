@@ -1,24 +1,26 @@
-//! Transfers as data paths, flattened and run clock by clock: from unknown values, and from random ones.
+//! What the steps to a data path give apart: intervals that are packed, slices of operators, and a counter made by hand
+//! as a flat net, clock by clock from unknown values.
 #![tactic(auto)]
 
+mod circuit;
+mod counter;
 mod hand;
-mod reading;
-mod running;
+mod nets;
+mod operator;
+mod packing;
 mod shown;
-mod sized;
+mod slices;
+mod steps;
 
 use hand::show_counter;
-use running::show_source;
-use sized::show_size;
+use organelles::Organelle;
+use packing::show_packings;
+use slices::show_slices;
 use std::io;
 
 fn main(rt: HostRuntime) -> io::Result<()> {
-    show_counter(&rt)?;
-    for name in ["counter", "subroutines", "gcd"] {
-        show_source(&rt, name)?;
-    }
-    for name in ["sum", "sums", "tests", "heavy", "brim"] {
-        show_size(&rt, name)?;
-    }
-    Ok(())
+    show_packings(&rt, "intervals.txt")?;
+    show_slices(&rt, Organelle::Add, 3, 7, 1)?;
+    show_slices(&rt, Organelle::Less, 3, 3, 5)?;
+    show_counter(&rt)
 }

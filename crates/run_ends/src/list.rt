@@ -3,6 +3,7 @@
 use crate::ends::{push_bytewise, push_ends};
 use crate::one_run::{Outcome, answer, endless_answer, quiet_answer};
 use crate::runner::Runner;
+use drawn_sizes::counts_around;
 use mp_base::NoMemory;
 use outcome::Status;
 use run_script::{Failing, File, NONE, Side, Step, set, step_of, text_of};
@@ -157,6 +158,26 @@ fn push_masks(
     Ok(())
 }
 
+// The counts of the values of a circuit, whose masks and stimulus are in two files.
+fn push_values(
+    alloc: Global,
+    told: &mut String,
+    files: &[File],
+    names: &str,
+) -> Result<(), AllocError> {
+    let (masks, stimulus) = names.split_once(' ').unwrap_or((names, ""));
+    let (Some(masks), Some(stimulus)) = (text_of(files, masks), text_of(files, stimulus)) else {
+        return Ok(());
+    };
+    match counts_around(alloc, masks, stimulus) {
+        Some(counts) => {
+            let counts = String::from_utf8_lossy(alloc, &counts)?;
+            writeln!(told, "   {counts}")
+        }
+        None => Ok(()),
+    }
+}
+
 fn push_step<R: Runner>(
     alloc: Global,
     told: &mut String,
@@ -173,6 +194,7 @@ fn push_step<R: Runner>(
         Step::Quiet(words) => quiet_answer(alloc, runner, files, words)?.push(alloc, told, files),
         Step::Endless(words) => endless_answer(alloc, runner, words)?.push(alloc, told, files),
         Step::Symbols(name) => push_masks(alloc, told, files, name),
+        Step::Values(names) => Ok(push_values(alloc, told, files, names)?),
         Step::Run(words) => push_run(alloc, told, runner, files, words),
     }
 }

@@ -4,7 +4,7 @@
 
 use mp_base::NoMemory;
 use run_ends::{Runner, exit_text, push_line};
-use run_script::exit_of;
+use run_script::{File, exit_of, set};
 use std::alloc::AllocError;
 use std::env::Args;
 use std::{fs, io};
@@ -15,16 +15,37 @@ pub trait Exits {
     fn status(&self, rt: &HostRuntime, room: &mut [u8], args: io::Result<Args>) -> u8;
 }
 
-// What comes of the lines of a list.
+// Sets a file to what a file of the system holds.
+fn load(rt: &HostRuntime, files: &mut Vec<File>, line: &str, rest: &str) -> io::Result<()> {
+    let (name, place) = rest.split_once(' ').unwrap_or((rest, rest));
+    let text = fs::read(rt, place)?;
+    set(rt.alloc(), files, name, text)?;
+    println!(rt; "{line}")
+}
+
+// Prints what comes of a line over the files that are set.
+fn show_line<R: Runner>(
+    rt: &HostRuntime,
+    runner: &R,
+    files: &mut Vec<File>,
+    line: &str,
+) -> io::Result<()> {
+    let mut told = String::new(rt.alloc());
+    match push_line(rt.alloc(), &mut told, runner, files, line) {
+        Ok(()) => print!(rt; "{told}"),
+        Err(NoMemory) => Err(io::Error::from(AllocError)),
+    }
+}
+
+// What comes of the lines of a list. A line `load NAME PLACE` sets a file to what the system has at that place.
 fn follow<R: Runner>(rt: &HostRuntime, runner: &R, name: &str) -> io::Result<()> {
     let list = fs::read_to_string(rt, name)?;
     let mut files = Vec::new(rt.alloc());
     for line in list.lines() {
-        let mut told = String::new(rt.alloc());
-        if let Err(NoMemory) = push_line(rt.alloc(), &mut told, runner, &mut files, line) {
-            return Err(io::Error::from(AllocError));
+        match line.strip_prefix("load ") {
+            Some(rest) => load(rt, &mut files, line, rest)?,
+            None => show_line(rt, runner, &mut files, line)?,
         }
-        print!(rt; "{told}")?;
     }
     Ok(())
 }

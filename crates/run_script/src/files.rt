@@ -49,11 +49,56 @@ pub fn set(
 /// What a list sets a file to.
 #[derive(Clone, Copy)]
 pub enum Content<'a> {
+    /// A text in which `\n`, `\r` and `\hh`, a byte by two digits, stand for bytes that no line holds.
     Text(&'a str),
     /// Lines that slashes keep apart.
     Lines(&'a str),
-    /// One blank more than a source may have.
-    Blanks,
+    /// So many copies of such a text.
+    Copies(u64, &'a str),
+}
+
+fn digit(letter: u8) -> u8 {
+    match letter {
+        b'0'..=b'9' => letter - b'0',
+        b'a'..=b'f' => letter - 87,
+        _ => 0,
+    }
+}
+
+// The first byte that a text stands for, and the rest of the text.
+fn byte_of(text: &[u8]) -> Option<(u8, &[u8])> {
+    match text {
+        [b'\\', b'n', after @ ..] => Some((b'\n', after)),
+        [b'\\', b'r', after @ ..] => Some((b'\r', after)),
+        [b'\\', high, low, after @ ..] => {
+            let byte = digit(*high).wrapping_mul(16).wrapping_add(digit(*low));
+            Some((byte, after))
+        }
+        [byte, after @ ..] => Some((*byte, after)),
+        [] => None,
+    }
+}
+
+// The bytes that a text stands for.
+fn bytes_of(alloc: Global, text: &[u8]) -> Result<Vec<u8>, AllocError> {
+    let mut bytes = Vec::new(alloc);
+    let mut rest = text;
+    for _ in 0..text.len() {
+        if let Some((byte, after)) = byte_of(rest) {
+            bytes.push(byte)?;
+            rest = after;
+        }
+    }
+    Ok(bytes)
+}
+
+fn copies_of(alloc: Global, count: u64, text: &str) -> Result<Vec<u8>, AllocError> {
+    let bytes = bytes_of(alloc, text.as_bytes())?;
+    let mut copies = Vec::new(alloc);
+    for _ in 0..count {
+        copies.extend_from_slice(&bytes)?;
+    }
+    Ok(copies)
 }
 
 fn lines_of(alloc: Global, text: &str) -> Result<Vec<u8>, AllocError> {
@@ -66,12 +111,12 @@ fn lines_of(alloc: Global, text: &str) -> Result<Vec<u8>, AllocError> {
 }
 
 impl Content<'_> {
-    /// Its bytes: the text, the lines with a line feed behind each, or the blanks.
+    /// Its bytes: the text, the lines with a line feed behind each, or the copies.
     pub fn bytes(self, alloc: Global) -> Result<Vec<u8>, AllocError> {
         match self {
-            Content::Text(text) => Vec::from_slice(alloc, text.as_bytes()),
+            Content::Text(text) => bytes_of(alloc, text.as_bytes()),
             Content::Lines(text) => lines_of(alloc, text),
-            Content::Blanks => Ok(vec![in alloc; b' '; 1_048_577]?),
+            Content::Copies(count, text) => copies_of(alloc, count, text),
         }
     }
 }

@@ -23,6 +23,8 @@ pub enum Step<'a> {
     Endless(&'a str),
     /// The symbols of the masks in a file.
     Symbols(&'a str),
+    /// The counts of the values of a circuit, whose masks and stimulus are in two files.
+    Values(&'a str),
     /// Runs words.
     Run(&'a str),
 }
@@ -47,8 +49,9 @@ fn setting<'a>(first: &str, rest: &'a str) -> Option<Step<'a>> {
         Some(Step::Set(name, Content::Text(text)))
     } else if first == "lines" {
         Some(Step::Set(name, Content::Lines(text)))
-    } else if first == "blanks" {
-        Some(Step::Set(name, Content::Blanks))
+    } else if first == "copies" {
+        let (count, piece) = first_word(text);
+        Some(Step::Set(name, Content::Copies(number(count), piece)))
     } else {
         None
     }
@@ -82,6 +85,8 @@ fn elsewhere<'a>(first: &str, rest: &'a str) -> Option<Step<'a>> {
         Some(Step::Endless(rest))
     } else if first == "symbols" {
         Some(Step::Symbols(rest))
+    } else if first == "values" {
+        Some(Step::Values(rest))
     } else {
         None
     }
@@ -96,11 +101,23 @@ pub fn step_of(line: &str) -> Step<'_> {
         .unwrap_or(Step::Run(line))
 }
 
-/// Words that are kept apart by blanks.
+// A word, in which `~` stands for a blank.
+fn word_of(alloc: Global, text: &str) -> Result<String, AllocError> {
+    let mut word = String::new(alloc);
+    for letter in text.chars() {
+        word.push(if letter == '~' { ' ' } else { letter })?;
+    }
+    Ok(word)
+}
+
+/// Words, each but the first behind one blank. A text without a byte has none.
 pub fn words_of(alloc: Global, text: &str) -> Result<Vec<String>, AllocError> {
     let mut words = Vec::new(alloc);
-    for word in text.split_whitespace() {
-        words.push(String::from_str(alloc, word)?)?;
+    if text.is_empty() {
+        return Ok(words);
+    }
+    for word in text.split(' ') {
+        words.push(word_of(alloc, word)?)?;
     }
     Ok(words)
 }

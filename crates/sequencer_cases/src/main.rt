@@ -1,19 +1,16 @@
-//! Steps programs and the transfers that they become side by side, and tells whether transfers are sound.
+//! Steps programs and the transfers that they become side by side, and tells whether the transfers are sound.
 #![tactic(auto)]
 
 mod cases;
-mod faults;
+mod dice;
+mod inputs;
 mod running;
+mod stepper;
 
 use cases::show_cases;
-use faults::show_faults;
-use running::show_random;
 use std::{fs, io};
 
 fn main(rt: HostRuntime) -> io::Result<()> {
     let programs = fs::read(&rt, "programs.txt")?;
-    show_cases(&rt, &programs)?;
-    let grammar = fs::read(&rt, "grammar.txt")?;
-    show_random(&rt, &grammar)?;
-    show_faults(&rt)
+    show_cases(&rt, &programs)
 }

@@ -2,24 +2,20 @@
 
 ghost use Rattle.mp_program.specs.Pads.{FitsPads, input_pads};
 
+use crate::dice::Dice;
+use crate::inputs::{inputs_of, zeros};
+use crate::stepper::{shows, step};
 use mp_base::{List, NoMemory};
 use mp_checker::Checked;
 use mp_source::check_source;
 use process_sequencer::sequence;
-use random_programs::{Dice, Rule, inputs_of, random_source, rules_of, zeros};
 use rtl_check::is_sound;
 use rtl_form::Rtl;
-use rtl_steps::{shows, step};
 use source_run::Machine;
 use std::alloc::Global;
-use std::io;
 
-/// The clocks of a program that is written down, and of a random one.
+/// The clocks of a program.
 const CLOCKS: u32 = 40;
-
-const FEW_CLOCKS: u32 = 16;
-
-const PROGRAMS: u32 = 200;
 
 const MOST_BYTES: usize = 1_048_576;
 
@@ -73,19 +69,18 @@ fn agree(
     agree_on(alloc, machine, rtl, stored, &inputs)
 }
 
-// In how many of so many clocks they do: first those whose inputs are given, then others.
+// In how many clocks they do: first those whose inputs are given, then others.
 fn count_agreed(
     alloc: Global,
     machine: &mut Machine<'_>,
     rtl: &Rtl,
     stored: &mut [u64],
     given: &str,
-    count: u32,
     dice: &mut Dice,
 ) -> Result<u32, NoMemory> {
     let mut clocks = given.split(',');
     let mut same = 0u32;
-    for _ in 0..count {
+    for _ in 0..CLOCKS {
         let given = clocks.next().filter(|clock| !clock.is_empty());
         if agree(alloc, machine, rtl, stored, given, dice)? {
             same = same.saturating_add(1);
@@ -100,36 +95,28 @@ fn agreed(
     checked: &Checked,
     rtl: &Rtl,
     given: &str,
-    count: u32,
     dice: &mut Dice,
 ) -> Result<u32, NoMemory> {
     let mut stored = vec![in alloc; 0; rtl.cells.len()]?;
     let mut machine = Machine::open(alloc, checked)?;
-    count_agreed(alloc, &mut machine, rtl, &mut stored, given, count, dice)
+    count_agreed(alloc, &mut machine, rtl, &mut stored, given, dice)
 }
 
 // The run of a program beside its transfers, where there is memory.
-fn run_beside(
-    alloc: Global,
-    checked: &Checked,
-    rtl: &Rtl,
-    given: &str,
-    clocks: u32,
-    seed: u64,
-) -> Option<Run> {
-    let mut dice = Dice::new(seed);
-    let same = agreed(alloc, checked, rtl, given, clocks, &mut dice).ok()?;
+fn run_beside(alloc: Global, checked: &Checked, rtl: &Rtl, given: &str) -> Option<Run> {
+    let mut dice = Dice::new(1);
+    let same = agreed(alloc, checked, rtl, given, &mut dice).ok()?;
     Some(Run {
         sound: is_sound(rtl),
-        clocks,
+        clocks: CLOCKS,
         same,
     })
 }
 
 // The run of a program, where there is memory.
-fn run_of(alloc: Global, checked: &Checked, given: &str, clocks: u32, seed: u64) -> Option<Run> {
+fn run_of(alloc: Global, checked: &Checked, given: &str) -> Option<Run> {
     let rtl = sequence(alloc, checked).ok()?;
-    run_beside(alloc, checked, &rtl, given, clocks, seed)
+    run_beside(alloc, checked, &rtl, given)
 }
 
 // The program of a source that is not too long and breaks no rule.
@@ -143,65 +130,5 @@ fn program_of(alloc: Global, source: &[u8]) -> Option<Checked> {
 /// The run of a source, where it breaks no rule and there is memory.
 pub(crate) fn run_of_source(alloc: Global, source: &[u8], given: &str) -> Option<Run> {
     let checked = program_of(alloc, source)?;
-    run_of(alloc, &checked, given, CLOCKS, 1)
-}
-
-// A random program, where the text that comes up breaks no rule: it may weigh too much.
-fn random_program(alloc: Global, rules: &[Rule<'_>], seed: u64) -> Option<Checked> {
-    let source = random_source(alloc, rules, seed).ok()?;
-    program_of(alloc, &source)
-}
-
-/// What is counted of runs.
-#[derive(Drop)]
-struct Tally {
-    programs: u32,
-    sound: u32,
-    clocks: u32,
-    same: u32,
-}
-
-impl Tally {
-    fn add(&mut self, run: Option<Run>) {
-        self.programs = self.programs.saturating_add(1);
-        if let Some(run) = run {
-            self.sound = self.sound.saturating_add(u32::from(run.sound));
-            self.clocks = self.clocks.saturating_add(run.clocks);
-            self.same = self.same.saturating_add(run.same);
-        }
-    }
-}
-
-// Adds the run of a random program.
-fn add_random(alloc: Global, tally: &mut Tally, rules: &[Rule<'_>], seed: u64) {
-    if let Some(checked) = random_program(alloc, rules, seed) {
-        tally.add(run_of(alloc, &checked, "", FEW_CLOCKS, seed));
-    }
-}
-
-fn tally_of(alloc: Global, rules: &[Rule<'_>]) -> Tally {
-    let mut tally = Tally {
-        programs: 0,
-        sound: 0,
-        clocks: 0,
-        same: 0,
-    };
-    for seed in 0..2 * PROGRAMS {
-        if tally.programs < PROGRAMS {
-            add_random(alloc, &mut tally, rules, u64::from(seed));
-        }
-    }
-    tally
-}
-
-/// The runs of random programs.
-pub(crate) fn show_random(rt: &HostRuntime, grammar: &[u8]) -> io::Result<()> {
-    let rules = rules_of(rt.alloc(), grammar)?;
-    let Tally {
-        programs,
-        sound,
-        clocks,
-        same,
-    } = tally_of(rt.alloc(), &rules);
-    println!(rt; "{programs} random programs: {sound} sound, the same in {same} of {clocks} clocks")
+    run_of(alloc, &checked, given)
 }

@@ -1,4 +1,4 @@
-use Rattle.random_programs.proofs.Fitting.{inputs_fit}
+use Rattle.sequencer_cases.proofs.Fitting.{inputs_fit}
 use Rattle.sequencer_cases.proofs.running.agree.Goals as goal
 
 pub agree_on-requires : goal.agree_on-requires

@@ -1,2 +1,0 @@
-mod Gates
-mod Written

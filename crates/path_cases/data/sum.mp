@@ -1,5 +1,0 @@
-(program sum 4 (def 1 power)(def 2 ground)(def 3 phia)(def 4 phib)(def 5 phic)
-  (def a port input (6 7 8 9))
-  (def b port input (10 11 12 13))
-  (def q port output (14 15 16 17))
-  (always (setq q (+ a b))))

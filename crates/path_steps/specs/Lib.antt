@@ -1,3 +1,0 @@
-pub mod Counter
-pub mod Flat
-pub mod Within

@@ -1,6 +1,0 @@
-use Rattle.std.proofs.Common.{All}
-use Rattle.track_assign.specs.Density.{IsInterval}
-use Rattle.track_cases.proofs.intervals.Given as goal
-
-abbrev pub invariant-loop-word : goal.invariant-loop-word
-invariant-loop-word l = All IsInterval l.intervals.items
