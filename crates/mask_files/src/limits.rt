@@ -1,4 +1,4 @@
 //! The limit of a file of masks.
 
 /// How many bytes a file of masks may have at most.
-pub const MASK_LIMIT: usize = 268_435_456;
+pub const MASK_LIMIT: usize = 536_870_912;

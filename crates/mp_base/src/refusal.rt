@@ -20,6 +20,7 @@ pub enum Family {
     N,
     B,
     L,
+    P,
 }
 
 #[derive(Clone, Copy, PartialEq, Eq, Debug)]

@@ -35,10 +35,10 @@ use Rattle.mp_limits.proofs.Namings.{def_named}
 abbrev pub faces : (What → Bool) → ℕ → List Def → List Face
 faces f w defs = map (λ (x : Def). (x.name, pad_width w x.what)) (filter (λ (x : Def). f x.what) defs)
 
--- the word length is at most 32
-pub width_fits : (p : Program) → p.width ≤ 32
+-- the word length is at most 64
+pub width_fits : (p : Program) → p.width ≤ 64
 width_fits p =
-    leb-true p.width 32
+    leb-true p.width 64
     (and_right _ _ (and_left _ _ (and_left _ _ (and_left _ _ (and_left _ _ (and_left _ _ (and_left _ _ p.fits)))))))
 
 or_false : (a b : Bool) → (a || b) ≡ false → b ≡ false

@@ -11,14 +11,14 @@ use mp_rules::earlier;
 
 // Whether a word of this width can't hold a value.
 fn is_wide(width: u8, value: u64) -> bool
-    requires { width ≤ 32 }
+    requires { width ≤ 64 }
     ensures { result ≡ nat_le (2 ^ width) value }
 {
-    1u64 << width <= value
+    width < 64 && 1u64 << width <= value
 }
 
 fn is_wide_constant(width: u8, what: What) -> bool
-    requires { width ≤ 32 }
+    requires { width ≤ 64 }
     ensures { result ≡ is_wide_constant width what }
 {
     match what {
@@ -28,7 +28,7 @@ fn is_wide_constant(width: u8, what: What) -> bool
 }
 
 fn is_wide_number(width: u8, kind: &ExprKind) -> bool
-    requires { width ≤ 32 }
+    requires { width ≤ 64 }
     ensures { result ≡ is_wide_number width kind.now }
 {
     match kind {

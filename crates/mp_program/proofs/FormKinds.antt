@@ -16,20 +16,20 @@ defs_fit p =
     let n = length p.forms in
     let t0 =
     and_parts
-    (nat_le 1 p.width && nat_le p.width 32 && is_symbol p.name && list_all def_fits p.defs && exprs_fit e 0 p.exprs
+    (nat_le 1 p.width && nat_le p.width 64 && is_symbol p.name && list_all def_fits p.defs && exprs_fit e 0 p.exprs
     && forms_fit e n 0 p.forms && list_all (λ f. nat_lt f n) p.always) (list_all (process_fits n) p.processes) p.fits in
     let t1 =
     and_parts
-    (nat_le 1 p.width && nat_le p.width 32 && is_symbol p.name && list_all def_fits p.defs && exprs_fit e 0 p.exprs
+    (nat_le 1 p.width && nat_le p.width 64 && is_symbol p.name && list_all def_fits p.defs && exprs_fit e 0 p.exprs
     && forms_fit e n 0 p.forms) (list_all (λ f. nat_lt f n) p.always) t0.0 in
     let t2 =
     and_parts
-    (nat_le 1 p.width && nat_le p.width 32 && is_symbol p.name && list_all def_fits p.defs && exprs_fit e 0 p.exprs)
+    (nat_le 1 p.width && nat_le p.width 64 && is_symbol p.name && list_all def_fits p.defs && exprs_fit e 0 p.exprs)
     (forms_fit e n 0 p.forms) t1.0 in
     let t3 =
-    and_parts (nat_le 1 p.width && nat_le p.width 32 && is_symbol p.name && list_all def_fits p.defs)
+    and_parts (nat_le 1 p.width && nat_le p.width 64 && is_symbol p.name && list_all def_fits p.defs)
     (exprs_fit e 0 p.exprs) t2.0 in
-    (and_parts (nat_le 1 p.width && nat_le p.width 32 && is_symbol p.name) (list_all def_fits p.defs) t3.0).1
+    (and_parts (nat_le 1 p.width && nat_le p.width 64 && is_symbol p.name) (list_all def_fits p.defs) t3.0).1
 
 pub input_signal : (w : What) → is_input_signal w ≡ true → is_input w ≡ true
 input_signal whats.Power h = absurd (cc)

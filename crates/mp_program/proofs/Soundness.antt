@@ -97,24 +97,24 @@ sound p =
     let n = length p.forms in
     let t0 =
     and_parts
-    (nat_le 1 p.width && nat_le p.width 32 && is_symbol p.name && list_all def_fits p.defs && exprs_fit e 0 p.exprs
+    (nat_le 1 p.width && nat_le p.width 64 && is_symbol p.name && list_all def_fits p.defs && exprs_fit e 0 p.exprs
     && forms_fit e n 0 p.forms && list_all (λ f. nat_lt f n) p.always) (list_all (process_fits n) p.processes) p.fits in
     let t1 =
     and_parts
-    (nat_le 1 p.width && nat_le p.width 32 && is_symbol p.name && list_all def_fits p.defs && exprs_fit e 0 p.exprs
+    (nat_le 1 p.width && nat_le p.width 64 && is_symbol p.name && list_all def_fits p.defs && exprs_fit e 0 p.exprs
     && forms_fit e n 0 p.forms) (list_all (λ f. nat_lt f n) p.always) t0.0 in
     let t2 =
     and_parts
-    (nat_le 1 p.width && nat_le p.width 32 && is_symbol p.name && list_all def_fits p.defs && exprs_fit e 0 p.exprs)
+    (nat_le 1 p.width && nat_le p.width 64 && is_symbol p.name && list_all def_fits p.defs && exprs_fit e 0 p.exprs)
     (forms_fit e n 0 p.forms) t1.0 in
     let t3 =
-    and_parts (nat_le 1 p.width && nat_le p.width 32 && is_symbol p.name && list_all def_fits p.defs)
+    and_parts (nat_le 1 p.width && nat_le p.width 64 && is_symbol p.name && list_all def_fits p.defs)
     (exprs_fit e 0 p.exprs) t2.0 in
-    let t4 = and_parts (nat_le 1 p.width && nat_le p.width 32 && is_symbol p.name) (list_all def_fits p.defs) t3.0 in
-    let t5 = and_parts (nat_le 1 p.width && nat_le p.width 32) (is_symbol p.name) t4.0 in
-    let t6 = and_parts (nat_le 1 p.width) (nat_le p.width 32) t5.0 in
+    let t4 = and_parts (nat_le 1 p.width && nat_le p.width 64 && is_symbol p.name) (list_all def_fits p.defs) t3.0 in
+    let t5 = and_parts (nat_le 1 p.width && nat_le p.width 64) (is_symbol p.name) t4.0 in
+    let t6 = and_parts (nat_le 1 p.width) (nat_le p.width 64) t5.0 in
     record {
-      width = (leb-true 1 p.width t6.0, leb-true p.width 32 t6.1);
+      width = (leb-true 1 p.width t6.0, leb-true p.width 64 t6.1);
       exprs = λ i x at. let same : 0 + i ≡ i = omega arith in let (lt, is) = read_of p.exprs i x at in
           subst (λ j. ArgsFit j e x.kind) same (expr_at e 0 p.exprs t3.1 i x lt is);
       forms = λ i x at. let same : 0 + i ≡ i = omega arith in let (lt, is) = read_of p.forms i x at in

@@ -58,11 +58,11 @@ process_fits n q = is_symbol q.name
     && list_all (λ (l : Label). is_symbol l.name && nat_le l.before (length q.forms)) q.labels
     && list_all (λ f. nat_lt f n) q.forms
 
--- A program fits: its word length is 1 to 32, its names are symbols, its indices are in range, operators have as many
+-- A program fits: its word length is 1 to 64, its names are symbols, its indices are in range, operators have as many
 -- operands as they take, and the arguments of an expression and the forms in a form stand behind it.
 abbrev pub program_fits : ℕ → List ℕ → List Def → List Expr → List Form → List ℕ → List Process → Bool
 program_fits width name defs exprs forms always processes =
-    nat_le 1 width && nat_le width 32 && is_symbol name
+    nat_le 1 width && nat_le width 64 && is_symbol name
     && list_all def_fits defs
     && exprs_fit (length exprs) 0 exprs
     && forms_fit (length exprs) (length forms) 0 forms

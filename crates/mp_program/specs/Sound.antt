@@ -45,10 +45,10 @@ pub record IsTree (p : Program) : Type 0 where
   pub expr_heights : (e : ℕ) → slice_index (expr_heights p.exprs) e ≤ height_limit
   pub form_heights : (f : ℕ) → slice_index (form_heights p.forms) f ≤ height_limit
 
--- the word length is 1 to 32, indices are in range, and those of arguments and inner forms are greater than that of
+-- the word length is 1 to 64, indices are in range, and those of arguments and inner forms are greater than that of
 -- what they stand in
 pub record IsSound (p : Program) : Type 0 where
-  pub width : (1 ≤ p.width) × (p.width ≤ 32)
+  pub width : (1 ≤ p.width) × (p.width ≤ 64)
   pub exprs : (i : ℕ) (x : Expr) → slice_get p.exprs i ≡ Some x → ArgsFit i (length p.exprs) x.kind
   pub forms : (i : ℕ) (x : Form) → slice_get p.forms i ≡ Some x → InnerFit (length p.exprs) i (length p.forms) x.kind
   pub always : AllByRecursion (λ f. f < length p.forms) p.always

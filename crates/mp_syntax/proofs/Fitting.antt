@@ -522,12 +522,12 @@ is_width f cs k r rs is =
 -- the parts of what the type of a program says
 parts_fit : (w : ℕ) (name : List ℕ) (defs : List Def) (es : List Expr) (fs : List Form) (always : List ℕ)
     (processes : List Process) (e n : ℕ)
-    → length es ≡ e → length fs ≡ n → 1 ≤ w → w ≤ 32 → fits.is_symbol name ≡ true → list_all fits.def_fits defs ≡ true
+    → length es ≡ e → length fs ≡ n → 1 ≤ w → w ≤ 64 → fits.is_symbol name ≡ true → list_all fits.def_fits defs ≡ true
     → fits.exprs_fit e 0 es ≡ true → fits.forms_fit e n 0 fs ≡ true
     → list_all (λ x. nat_lt x n) always ≡ true → list_all (fits.process_fits n) processes ≡ true
     → fits.program_fits w name defs es fs always processes ≡ true
 parts_fit w name defs es fs always processes e n he hn low high named defined exprs_are forms_are top processed =
-    let one = and_from (nat_le 1 w) (nat_le w 32) (le-leb 1 w low) (le-leb w 32 high) in
+    let one = and_from (nat_le 1 w) (nat_le w 64) (le-leb 1 w low) (le-leb w 64 high) in
     let two = and_from _ (fits.is_symbol name) one named in
     let three = and_from _ (list_all fits.def_fits defs) two defined in
     let four = and_from _ (fits.exprs_fit (length es) 0 es) three (ap (λ x. fits.exprs_fit x 0 es) he ∙ exprs_are) in
@@ -547,7 +547,7 @@ width_inside f cs k r rs is = (width_node f cs k r rs is).inside
 -- all that the type of a program says
 pub all_fits : (f : Forms) (cs : List (Option Class)) → Known f cs → (r : ℕ) (rs : List ℕ) → f.roots ≡ r ∷ rs
     → 1 ≤ number_at f (slice_index (items_of (kind_at f r)) 2)
-    → number_at f (slice_index (items_of (kind_at f r)) 2) ≤ 32
+    → number_at f (slice_index (items_of (kind_at f r)) 2) ≤ 64
     → fits.program_fits (number_at f (slice_index (items_of (kind_at f r)) 2))
     (name_at f (slice_index (items_of (kind_at f r)) 1))
     (filter_map (def_at f) (drop 3 (items_of (kind_at f r))))
@@ -612,7 +612,7 @@ same_fits w v m n c d es xs fs gs a b ps qs e1 e2 e3 e4 e5 e6 e7 =
 -- the same, of lists that are these
 pub fits_at : (f : Forms) (cs : List (Option Class)) → Known f cs → (r : ℕ) (rs : List ℕ) → f.roots ≡ r ∷ rs
     → 1 ≤ number_at f (slice_index (items_of (kind_at f r)) 2)
-    → number_at f (slice_index (items_of (kind_at f r)) 2) ≤ 32
+    → number_at f (slice_index (items_of (kind_at f r)) 2) ≤ 64
     → (w : ℕ) (name : List ℕ) (defs : List Def) (es : List Expr) (fs : List Form) (always : List ℕ)
     (processes : List Process)
     → w ≡ number_at f (slice_index (items_of (kind_at f r)) 2)

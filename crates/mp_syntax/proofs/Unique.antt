@@ -121,13 +121,13 @@ fronts a b c d e g h i is =
     (and_parts (a && b && c && d) e (and_parts (a && b && c && d && e) g (and_parts (a && b && c && d && e && g) h
     (and_parts (a && b && c && d && e && g && h) i is).0).0).0).0).0).0
 
-width_bounds : (p : Program) → (1 ≤ p.width) × (p.width ≤ 32)
+width_bounds : (p : Program) → (1 ≤ p.width) × (p.width ≤ 64)
 width_bounds p =
-    let h = fronts (nat_le 1 p.width) (nat_le p.width 32) (fits.is_symbol p.name) (list_all fits.def_fits p.defs)
+    let h = fronts (nat_le 1 p.width) (nat_le p.width 64) (fits.is_symbol p.name) (list_all fits.def_fits p.defs)
     (fits.exprs_fit (length p.exprs) 0 p.exprs)
     (fits.forms_fit (length p.exprs) (length p.forms) 0 p.forms) (list_all (λ f. nat_lt f (length p.forms)) p.always)
     (list_all (fits.process_fits (length p.forms)) p.processes) p.fits in
-    (leb-true 1 p.width h.0, leb-true p.width 32 h.1)
+    (leb-true 1 p.width h.0, leb-true p.width 64 h.1)
 
 pub shaped_is_unbroken : (f : Forms) (p : Program) (at : Place) → IsShape f p → E10 f at ⊎ E11 f at → ⊥
 shaped_is_unbroken f p at s e =

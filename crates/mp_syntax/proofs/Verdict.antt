@@ -28,7 +28,7 @@ ShapesLaw = (f : Forms) → IsSound f → ((classes : List (Option Class)) × Ar
 -- the program of one form without a defect, of a word length within the bounds
 program_of : (f : Forms) (cs : List (Option Class)) → Known f cs → (r : ℕ) → f.roots ≡ r ∷ []
     → 1 ≤ number_at f (slice_index (items_of (kind_at f r)) 2)
-    → number_at f (slice_index (items_of (kind_at f r)) 2) ≤ 32 → (p : Program) × IsShape f p
+    → number_at f (slice_index (items_of (kind_at f r)) 2) ≤ 64 → (p : Program) × IsShape f p
 program_of f cs known r one low high = (
   record {
     place = (node f r).place;
@@ -61,7 +61,7 @@ program_of f cs known r one low high = (
 wrong_width : (f : Forms) (cs : List (Option Class)) → Known f cs → (r : ℕ) → f.roots ≡ r ∷ []
     → ((at : Place) → E10 f at → ⊥)
     → (number_at f (slice_index (items_of (kind_at f r)) 2) ≡ 0)
-    ⊎ (32 < number_at f (slice_index (items_of (kind_at f r)) 2)) → (k : ℕ) × (at : Place) × IsFirst f k at
+    ⊎ (64 < number_at f (slice_index (items_of (kind_at f r)) 2)) → (k : ℕ) × (at : Place) × IsFirst f k at
 wrong_width f cs known r one whole bad =
     let n = slice_index (items_of (kind_at f r)) 2 in
     let at = (node f n).place in
@@ -78,7 +78,7 @@ verdict law f sound symbols = elim (law f sound) [
       let n = number_at f (slice_index (items_of (kind_at f r)) 2) in
       elim (cases_lt 0 n) [
         | inr none ↦ inr (wrong_width f cs known r one whole (inl (omega (arith, none))))
-        | inl some ↦ elim (cases_lt 32 n) [
+        | inl some ↦ elim (cases_lt 64 n) [
           | inl many ↦ inr (wrong_width f cs known r one whole (inr many))
           | inr high ↦ inl (program_of f cs known r one (omega (arith, some)) high)
         ]

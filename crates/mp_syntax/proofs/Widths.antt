@@ -38,7 +38,7 @@ root_read f whole x is =
 
 -- a word length within the bounds breaks no rule
 pub width_kept : (f : Forms) (r : ℕ) → f.roots ≡ r ∷ [] → 1 ≤ number_at f (slice_index (items_of (kind_at f r)) 2)
-    → number_at f (slice_index (items_of (kind_at f r)) 2) ≤ 32 → (at : Place) → E11 f at → ⊥
+    → number_at f (slice_index (items_of (kind_at f r)) 2) ≤ 64 → (at : Place) → E11 f at → ⊥
 width_kept f r one low high at (q, n, v, rs, is, lay, there, kind, bad, place) =
     let same : q ≡ r = ap (λ xs. slice_index xs 0) (sym is ∙ one) in
     let here : n ≡ slice_index (items_of (kind_at f r)) 2 =
@@ -63,7 +63,7 @@ form_kept f r one clean at e = elim e [
 -- the refusal of a word length
 pub width_refused : (f : Forms) (cs : List (Option Class)) → Known f cs → (r n : ℕ) → f.roots ≡ r ∷ []
     → ((at : Place) → E10 f at → ⊥) → n ≡ slice_index (items_of (kind_at f r)) 2
-    → (number_at f n ≡ 0) ⊎ (32 < number_at f n) → (e : Refusal) (at : Place) → at ≡ (node f n).place
+    → (number_at f n ≡ 0) ⊎ (64 < number_at f n) → (e : Refusal) (at : Place) → at ≡ (node f n).place
     → e ≡ Broken (record { rule = record { family = E; number = 11 }; spot = At at })
     → RefusesAt E e (IsFirst f)
 width_refused f cs k r n one whole is bad e at place told =

@@ -127,17 +127,17 @@ pub record IsShape (f : Forms) (p : Program) : Type 0 where
   pub always : p.always ≡ flat_map (always_at f (form_index f classes)) (drop 3 (items_of (kind_at f root)))
   pub processes : p.processes ≡ filter_map (process_at f (form_index f classes)) (drop 3 (items_of (kind_at f root)))
 
--- rule E11, by the place: the word length is 0 or over 32
+-- rule E11, by the place: the word length is 0 or over 64
 abbrev pub E11 : Forms → Place → Type 0
 E11 f at = (r n v : ℕ) × (rs : List ℕ) × (f.roots ≡ r ∷ rs)
     × (layout f classes.Whole (kind_at f r) ≡ Some layouts.Program) × (n ≡ slice_index (items_of (kind_at f r)) 2)
-    × (kind_at f n ≡ kinds.Number v) × ((v ≡ 0) ⊎ (32 < v)) × (at ≡ (node f n).place)
+    × (kind_at f n ≡ kinds.Number v) × ((v ≡ 0) ⊎ (64 < v)) × (at ≡ (node f n).place)
 
 -- the first broken rule: E10, by offset, and then E11
 abbrev pub IsFirst : Forms → ℕ → Place → Type 0
 IsFirst f k at = ((k ≡ 10) × IsFirstE10 f at) ⊎ ((k ≡ 11) × E11 f at × ((there : Place) → ¬ E10 f there))
 
--- every form has its shape, and the word length is 1 to 32; or this is the first rule that is broken
+-- every form has its shape, and the word length is 1 to 64; or this is the first rule that is broken
 abbrev pub OfForms : Forms → Option Broken → Type 0
 OfForms f None = (at : Place) → ¬ (E10 f at ⊎ E11 f at)
 OfForms f (Some b) = IsOfFamily E (IsFirst f) b

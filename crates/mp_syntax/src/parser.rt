@@ -119,7 +119,7 @@ fn program_of(
     requires one { forms.now.roots ≡ root ∷ [] }
     requires known { AreClasses forms.now classes.now }
     requires low { 1 ≤ number_at forms.now (slice_index (items_of (kind_at forms.now root)) 2) }
-    requires high { number_at forms.now (slice_index (items_of (kind_at forms.now root)) 2) ≤ 32 }
+    requires high { number_at forms.now (slice_index (items_of (kind_at forms.now root)) 2) ≤ 64 }
     ensures { IfOk result (IsShape forms.now) }
 {
     let ranks = ranks_of(alloc, forms, classes)?;
@@ -141,7 +141,7 @@ fn program_of(
 }
 
 /// The program that forms spell. E10 at the first node that has no shape of what it stands for, at a second form, or at
-/// the end where there is no form; then E11 at the word length, where it isn't 1 to 32.
+/// the end where there is no form; then E11 at the word length, where it isn't 1 to 64.
 pub fn parse(alloc: Global, forms: &Forms) -> Result<Program, Refusal>
     requires sound { IsSound forms.now }
     requires symbols { HasSymbols forms.now }
@@ -159,7 +159,7 @@ pub fn parse(alloc: Global, forms: &Forms) -> Result<Program, Refusal>
     if width == 0 {
         return Err(wrong_width(node_at(forms, width_at).place));
     }
-    if width > 32 {
+    if width > 64 {
         return Err(wrong_width(node_at(forms, width_at).place));
     }
     Ok(program_of(alloc, forms, &classes, root)?)

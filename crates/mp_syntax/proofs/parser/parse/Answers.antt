@@ -55,18 +55,18 @@ returns-then-width-eq0-clause-judged c =
     (inl (sym c.number_at-width.ensures ∙ c.if-width-eq0.true)) c.wrong_width.result c.node_at.result.now.place
     (ap (λ (n : Node). n.place) c.node_at.ensures) c.wrong_width.ensures
 
-pub returns-then-width-gt32-clause-judged : goal.returns-then-width-gt32-clause-judged
-returns-then-width-gt32-clause-judged c =
+pub returns-then-width-gt64-clause-judged : goal.returns-then-width-gt64-clause-judged
+returns-then-width-gt64-clause-judged c =
     let f = c.args.forms.now in
     let known : Known f c.in-Ok.classes =
     record { sound = c.requires.sound; symbols = c.requires.symbols; classes = c.in-Ok.ensures.ok } in
     let is : c.item-width_at.result ≡ slice_index (items_of (kind_at f c.at-root.result.now)) 2 = cc in
-    let many : 32 < number_at f c.item-width_at.result =
-    omega (arith, c.number_at-width.ensures, c.if-width-gt32.true) in
+    let many : 64 < number_at f c.item-width_at.result =
+    omega (arith, c.number_at-width.ensures, c.if-width-gt64.true) in
     width_refused f c.in-Ok.classes known c.at-root.result.now c.item-width_at.result
     (root_read f c.in-Ok.ensures.whole c.at-root.result.now c.at-root.ensures) c.in-Ok.ensures.whole is
-    (inr many) c.wrong_width-then-width-gt32.result c.node_at-then-width-gt32.result.now.place
-    (ap (λ (n : Node). n.place) c.node_at-then-width-gt32.ensures) c.wrong_width-then-width-gt32.ensures
+    (inr many) c.wrong_width-then-width-gt64.result c.node_at-then-width-gt64.result.now.place
+    (ap (λ (n : Node). n.place) c.node_at-then-width-gt64.ensures) c.wrong_width-then-width-gt64.ensures
 
 pub program_of-requires-clause-one : goal.program_of-requires-clause-one
 program_of-requires-clause-one c =
@@ -83,8 +83,8 @@ returns-clause-judged c = λ at e.
     let some : c.number_at-width.result ≢ 0 = c.if-width-eq0.false in
     let low : 1 ≤ number_at f (slice_index (items_of (kind_at f c.at-root.result.now)) 2) =
     omega (arith, width, some) in
-    let high : number_at f (slice_index (items_of (kind_at f c.at-root.result.now)) 2) ≤ 32 =
-    omega (arith, width, c.if-width-gt32.false) in
+    let high : number_at f (slice_index (items_of (kind_at f c.at-root.result.now)) 2) ≤ 64 =
+    omega (arith, width, c.if-width-gt64.false) in
     elim e [
       | inl ten ↦ c.in-Ok.ensures.whole at ten
       | inr eleven ↦ width_kept f c.at-root.result.now one low high at eleven
