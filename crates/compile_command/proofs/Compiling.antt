@@ -16,6 +16,7 @@ compiled text chip program is spelled = record {
   few = (is.small).few;
   extent = (is.small).extent;
   sized = (is.small).sized;
+  clean = (is.small).clean;
   ratioed = (is.small).ratioed;
   named = (is.small).named;
   written = (is.small).written;

@@ -31,6 +31,8 @@ use Rattle.rtl_form.specs.Cost.{cost}
 use Rattle.process_plan.specs.Same.{IsSame}
 use Rattle.chip_laws.specs.Planned.{IsPlanned}
 use Rattle.cif_emit.specs.Emitted.{IsEmitted}
+use Rattle.lam_geom.proofs.RuleLaws.{same_clean}
+use Rattle.mask_laws.proofs.SameSquares.{turn}
 use Rattle.compile_laws.proofs.Sizes.{same_sizes}
 use Rattle.compile_laws.proofs.Written.{WrittenIsRead, feed, placed, semicolon}
 use Rattle.compile_laws.specs.Laws.{most_high, most_rects, most_wide, IsBounded, IsSmallChipOf, MakesChips}
@@ -55,7 +57,7 @@ same_names (l ∷ ls) (f ∷ fs) are =
 
 -- the walk of a chip stays within its limit
 short_walk : (rects labels cost width : ℕ) → rects ≤ most_rects cost width → labels ≤ 64 * cost + 5
-    → cost ≤ 1024 → width ≤ 32 → rects + labels + 65_536 ≤ walk_limit
+    → cost ≤ 1024 → width ≤ 64 → rects + labels + 65_536 ≤ walk_limit
 short_walk rects labels cost width a b c d = grind (arith, a, b, c, d)
 
 few_shapes : (shapes rects cost heavy width : ℕ) → shapes ≤ rects → rects ≤ most_rects cost width → cost ≤ heavy
@@ -143,12 +145,14 @@ module _
                   (subst (λ w. IsAtMost (covered rects) (most_wide (cost r)) (most_high (cost r) w)) same.width
                   bounded.extent);
               sized = same_sizes (covered rects) (covered drawn.shapes) drawn.same bounded.sized;
+              clean = same_clean (covered drawn.shapes) (covered rects)
+                  (turn (covered rects) (covered drawn.shapes) drawn.same) bounded.clean;
               ratioed = bounded.ratioed drawn.flat drawn.labelled found.0 found.1;
               named = same_names labels drawn.flat drawn.labelled ∙ planned.named;
               written = ap file_text (sym (placed (codes ";\n") 0 commands));
             }
 
-    pub made : weight p ≤ 1024 → p.width ≤ 32 → MakesChips p
+    pub made : weight p ≤ 1024 → p.width ≤ 64 → MakesChips p
     made light narrow r rects labels commands same plan bounded emitted =
         let few : length rects ≤ most_rects (cost r) p.width =
         subst (λ n. length rects ≤ most_rects (cost r) n) same.width plan.few in

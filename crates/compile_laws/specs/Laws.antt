@@ -15,6 +15,7 @@ use Rattle.headline.specs.Headline.{IsChipOf}
 use Rattle.fabric.specs.declared.chip.ChipLabel.{ChipLabel}
 use Rattle.fabric.specs.Labelled.{AreLabelsOf}
 use Rattle.fabric_laws.specs.Sized.{AreSized}
+use Rattle.lam_geom.specs.Rules.{IsClean}
 use Rattle.rtl_form.specs.declared.rtl.Rtl.{Rtl}
 use Rattle.rtl_form.specs.Cost.{cost}
 use Rattle.process_plan.specs.Same.{IsSame}
@@ -45,6 +46,7 @@ pub record IsSmallPlan (r : Rtl) (rects : List Rect) (labels : List ChipLabel) :
 pub record IsBounded (r : Rtl) (rects : List Rect) (labels : List ChipLabel) : Type 0 where
   pub extent : IsAtMost (covered rects) (most_wide (cost r)) (most_high (cost r) r.width)
   pub sized : AreSized (covered rects)
+  pub clean : IsClean (covered rects)
   pub ratioed : (flat : List FlatLabel) → AreLabelsOf labels flat → (n : Network)
       → IsNetwork (covered rects) flat n → IsRatioed n
 
@@ -57,6 +59,7 @@ pub record IsSmallChipOf (p : Program) (text : List ℕ) : Type 0 where
   pub few : length (chip.draws).shapes ≤ most_rects (weight p) p.width
   pub extent : IsAtMost (covered (chip.draws).shapes) (most_wide (weight p)) (most_high (weight p) p.width)
   pub sized : AreSized (covered (chip.draws).shapes)
+  pub clean : IsClean (covered (chip.draws).shapes)
   pub ratioed : IsRatioed chip.network
   pub named : map (λ (l : FlatLabel). l.name) (chip.draws).labels ≡ chip_labels chip.pads
   pub written : text ≡ file_text (commands_of (chip.draws).commands)

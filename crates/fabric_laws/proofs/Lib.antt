@@ -18,3 +18,13 @@ mod Network
 mod Small
 mod Ends
 mod Sizes
+mod RuleTables
+mod Widths
+mod Gaps
+mod Spacing
+mod Gates
+mod Cuts
+mod Surrounds
+mod Clean
+mod Metal
+mod West

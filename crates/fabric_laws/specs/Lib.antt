@@ -1,2 +1,4 @@
 pub mod Theorem
 pub mod Sized
+pub mod Clean
+pub mod West

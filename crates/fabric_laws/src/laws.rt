@@ -2,6 +2,8 @@
 
 ghost use Rattle.fabric_laws.specs.Theorem.{FabricDrawsSwitches, FabricIsSwitches, FabricsAreSmall, LabelsName};
 ghost use Rattle.fabric_laws.specs.Sized.{FabricsAreSized};
+ghost use Rattle.fabric_laws.specs.Clean.{FabricsAreClean};
+ghost use Rattle.fabric_laws.specs.West.{FabricsAreHeld, FabricsFaceWest};
 
 use lam_geom::laws::rectangles_are_joined;
 
@@ -32,6 +34,22 @@ pub fn fabrics_are_small()
 /// 2 wide and 16 high with its ends below and above.
 pub fn channels_are_sized()
     ensures { FabricsAreSized }
+{
+    rectangles_are_joined();
+}
+
+/// What a fabric draws breaks no lambda rule at any square.
+pub fn fabrics_are_clean()
+    ensures { FabricsAreClean }
+{
+    rectangles_are_joined();
+}
+
+/// Nothing is drawn west of a fabric, and what is drawn within 7 lambda of its west edge are crossings under the trunk
+/// of ground, whose metal is on the node of the net that begins there.
+pub fn fabrics_face_west()
+    ensures west { FabricsFaceWest }
+    ensures held { FabricsAreHeld }
 {
     rectangles_are_joined();
 }

@@ -8,3 +8,5 @@ pub mod Rects
 mod Rectangles
 mod Touching
 mod Extents
+pub mod RuleLaws
+mod RuleRows

@@ -2,6 +2,7 @@
 
 ghost use Rattle.lam_geom.specs.Squares.{RectanglesAreJoined};
 ghost use Rattle.lam_geom.specs.Extent.{ExtentExists, OneExtent, ExtentOfSquares};
+ghost use Rattle.lam_geom.specs.Rules.{OneBreach, SameBreaches};
 
 /// Between any two squares of a rectangle a chain of its own squares leads over shared edges.
 pub fn rectangles_are_joined()
@@ -13,4 +14,10 @@ pub fn extents_are_determined()
     ensures exist { ExtentExists }
     ensures once { OneExtent }
     ensures squares { ExtentOfSquares }
+{}
+
+/// A drawing has at most one first breach of the lambda rules, and the covered squares alone tell what it breaks.
+pub fn breaches_are_determined()
+    ensures once { OneBreach }
+    ensures squares { SameBreaches }
 {}

@@ -12,6 +12,8 @@ use Rattle.fabric.specs.declared.thing.Segment.{Segment}
 use Rattle.fabric.specs.Plan.{Plan, IsFabric}
 use Rattle.fabric.specs.Shape.{shape}
 use Rattle.fabric_laws.specs.Sized.{AreSized, FabricsAreSized}
+use Rattle.lam_geom.specs.Rules.{IsClean}
+use Rattle.fabric_laws.specs.Clean.{FabricsAreClean}
 use Rattle.fabric.proofs.Bases.{rectangles_counted}
 use Rattle.fabric_extent.specs.Bounds.{SmallFabrics}
 use Rattle.track_assign.specs.declared.packing.Tracks.{Tracks}
@@ -119,12 +121,13 @@ module _ (r : Rtl) (p : DataPath) (stands : IsPathFor r p) (control : IsNet p.co
             (sym chip_for.fabric) (marked p control slices f laid.sliced lawful);
       }
 
-      pub bounded : SlicedIsSmall → SlicedHasNoUnder → SmallFabrics → FabricsAreSized → PathsAreRatioed
+      pub bounded : SlicedIsSmall → SlicedHasNoUnder → SmallFabrics → FabricsAreSized → FabricsAreClean → PathsAreRatioed
           → IsBounded r (chip_rects chip) chip.labels
-      bounded is_small bare bounds sizes ratio = record {
+      bounded is_small bare bounds sizes cleans ratio = record {
         extent = subst (λ rects. IsAtMost (covered rects) (most_wide (cost r)) (most_high (cost r) r.width))
             (sym chip_for.alone) (extent is_small bare bounds);
         sized = subst (λ rects. AreSized (covered rects)) (sym chip_for.alone) (sizes f lawful);
+        clean = subst (λ rects. IsClean (covered rects)) (sym chip_for.alone) (cleans f lawful);
         ratioed = λ flat are n is. ratio r p n chip_for.network chip_for.place same_pads control slices
             ((chip_for.laid_out r same_pads flat are).2 n is);
       }

@@ -13,7 +13,7 @@ use crate::chips::chip_of;
 use crate::laws::labels_are_few;
 use fabric::{Chip, Fabric};
 use fabric_extent::laws::small_fabrics_are_small;
-use fabric_laws::laws::channels_are_sized;
+use fabric_laws::laws::{channels_are_sized, fabrics_are_clean};
 use mp_base::{List, NoMemory};
 use path_chips::laws::{paths_are_planned, paths_are_ratioed};
 use path_form::DataPath;
@@ -87,6 +87,7 @@ pub fn planned_of(
     columns_are_used();
     small_fabrics_are_small();
     channels_are_sized();
+    fabrics_are_clean();
     // What every net and every fabric keeps.
     let _control = path.control.len();
     let _slices = path.slices.net.len();

@@ -32,4 +32,4 @@ returns-clause-bounded c =
     bounded c.args.rtl.now c.args.path.now c.requires.path c.len-control.ensures.shape c.len-slices.ensures.shape
     c.args.fabric c.conditions.ensures.met c.args.groups c.requires.laid c.in_ok-chip.chip c.in_ok-chip.ensures.chip
     c.sliced_is_small.ensures c.sliced_has_no_under.ensures c.small_fabrics_are_small.ensures
-    c.channels_are_sized.ensures c.paths_are_ratioed.ensures
+    c.channels_are_sized.ensures c.fabrics_are_clean.ensures c.paths_are_ratioed.ensures
