@@ -7,12 +7,13 @@ ghost use Rattle.nor_net.specs.Shape.{input_count, kind_of, net_limit};
 ghost use Rattle.nor_net.specs.declared.net.NetKind.TheVariants as kind;
 ghost use Rattle.nor_net.specs.declared.net.Part.TheVariants as part;
 
+use crate::inputs::Inputs;
 use mp_base::{List, NoMemory};
 use std::alloc::Global;
 use std::marker::Model;
 
 /// A net, by its number.
-#[derive(Clone, Copy, PartialEq, Eq, Debug)]
+#[derive(Clone, Copy, PartialEq, Eq, Debug, Default)]
 pub struct NetId(pub u32);
 
 /// The three phases of a clock, at which latches take their data: first C, for the inputs, then A, then B.
@@ -35,7 +36,7 @@ pub enum NetKind {
 #[derive(Drop)]
 pub enum Part {
     Input,
-    Gate(List<NetId>),
+    Gate(Inputs),
     Latch { phase: Phase, source: Option<NetId> },
 }
 
@@ -158,10 +159,10 @@ impl Net {
         ensures err { OnErr result (self.new ≡ self.old) }
     {
         let id = NetId(self.parts.len() as u32);
-        let Ok(copied) = Vec::from_slice(alloc, inputs) else {
+        let Ok(inputs) = Inputs::of(alloc, inputs) else {
             return Err(NoMemory);
         };
-        match self.parts.push(Part::Gate(List::from_vec(copied))) {
+        match self.parts.push(Part::Gate(inputs)) {
             Ok(()) => Ok(id),
             Err(_) => Err(NoMemory),
         }

@@ -1,4 +1,4 @@
-use Rattle.std.proofs.Common.{◌≡◌, ◌<◌, length, ap, subst, sym, ◌∙◌, arith}
+use Rattle.std.proofs.Common.{◌≡◌, ◌<◌, length, ap, subst, sym, arith}
 use Rattle.std.specs.Prelude.{All}
 use Rattle.nor_net.specs.declared.net.NetId.{NetId}
 use Rattle.nor_net.specs.Shape.{gate_inputs}
@@ -10,7 +10,7 @@ invariant_of-self c =
     let v : c.self.inside.parts ≡ c.args.self.now = c.self.view_is in
     let l = ap length v in
     let g = ap gate_inputs v in
-    let i : c.from_vec.result ≡ c.args.inputs.now = c.from_vec.ensures ∙ c.in-Ok.ensures.items in
+    let i : c.in-Ok.inputs ≡ c.args.inputs.now = c.in-Ok.ensures in
     let k = ap length i in
     is_net_pushed c.push.result c.self.inside.parts c.push.new.self _ c.push.ensures.ok c.push.ensures.err
     c.self.invariant (omega (arith, l, c.requires.room)) (omega (arith, g, k, c.requires.inputs_room))
