@@ -12,6 +12,7 @@ ghost use Rattle.datapath_finish.specs.Finishing.{AreInputNets, AreOutputNets, I
 ghost use Rattle.datapath_finish.specs.Finishing.{AreEnds, IsFinished, IsOrdered, IsOutputPut, IsPadNet, IsPathOf};
 ghost use Rattle.mp_base.specs.declared.limits.TheConstants.{WEIGHT_LIMIT};
 
+use column_turns::Turns;
 use datapath_making::{Making, entry};
 use mp_base::{List, NoMemory, Pad, Pads};
 use nor_net::NetId;
@@ -142,7 +143,7 @@ fn ends_of(alloc: Global, rtl: &Rtl, making: &mut Making) -> Result<Ends, NoMemo
 }
 
 // The path of these nets, with these ends.
-fn path_of(making: Making, ends: Ends) -> DataPath
+fn path_of(alloc: Global, making: Making, ends: Ends) -> DataPath
     requires { IsPath making.width making.control making.slices making.casts making.lifts ends.pads ends.inputs
         ends.outputs
         ends.order }
@@ -172,6 +173,8 @@ fn path_of(making: Making, ends: Ends) -> DataPath
         inputs,
         outputs,
         order,
+        control_turns: Turns::none(alloc),
+        slice_turns: Turns::none(alloc),
     }
 }
 
@@ -188,5 +191,5 @@ pub fn finish(alloc: Global, rtl: &Rtl, making: Making) -> Result<DataPath, NoMe
 {
     let mut making = making;
     let ends = ends_of(alloc, rtl, &mut making)?;
-    Ok(path_of(making, ends))
+    Ok(path_of(alloc, making, ends))
 }

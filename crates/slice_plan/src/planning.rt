@@ -6,14 +6,28 @@ ghost use Rattle.rtl_form.specs.Sound.{IsSound};
 ghost use Rattle.cif_emit.specs.Emittable.{IsEmittable, chip_rects};
 ghost use Rattle.compile_laws.specs.Laws.{IsBounded, IsSmallPlan};
 ghost use Rattle.path_plan.specs.Plans.{IsMeasured};
+ghost use Rattle.slice_plan.specs.Turned.{IsTurned};
 ghost use Rattle.mp_base.specs.declared.limits.TheConstants.{WEIGHT_LIMIT};
 
+use column_guesses::{Guess, guess_turns};
 use datapath_alloc::allocate;
 use mp_base::NoMemory;
+use path_form::DataPath;
 use path_laying::{Laid, lay};
 use path_plan::{Planned, planned_of};
 use rtl_form::Rtl;
 use std::alloc::Global;
+
+// The same path, in which columns take turns so that the plan wants few rows.
+fn turned(alloc: Global, path: DataPath) -> Result<DataPath, NoMemory>
+    ensures { IfOk result (IsTurned path) }
+{
+    let Guess { control, slices } = guess_turns(alloc, &path)?;
+    let mut path = path;
+    path.control_turns = control;
+    path.slice_turns = slices;
+    Ok(path)
+}
 
 /// The plan of register transfers that fit together and cost at most 1024. Its chip has each label of their pads once,
 /// in order, at whatever offsets its labels stand it breaks no rule of masks, and each network that its rectangles draw
@@ -32,7 +46,8 @@ pub fn plan(alloc: Global, rtl: &Rtl) -> Result<Planned, NoMemory>
     ensures measured { IfOk result (IsMeasured rtl.now) }
     ensures bounded { IfOk result (λ planned. IsBounded rtl.now (chip_rects planned.chip) planned.chip.labels) }
 {
-    let path = allocate(alloc, rtl)?;
+    let allocated = allocate(alloc, rtl)?;
+    let path = turned(alloc, allocated)?;
     let Laid { fabric, groups } = lay(alloc, &path)?;
     planned_of(alloc, rtl, &path, fabric, groups)
 }
