@@ -29,9 +29,9 @@ use Rattle.cif_form.specs.Place.{layer_name}
 use Rattle.cif_form.specs.Text.{IsDigit, IsUpper, IsShortName}
 use Rattle.cif_form.specs.Fits.{Fits, IsSmall}
 use Rattle.cif_form.specs.Scans.{Nests}
-use Rattle.cif_form.specs.Expansion.{Expands}
+use Rattle.cif_form.specs.Laws.{WalkIsUnique}
 use Rattle.cif_form.specs.Counts.{FileCounts, CountKeepsLimit}
-use Rattle.cif_form.specs.Walk.{DrawRule, FileWalks, WalkEnd, walk_limit, start}
+use Rattle.cif_form.specs.Walk.{DrawRule, FileWalks, walk_limit, start}
 use Rattle.cif_form.specs.Walk.DrawRule.{F7}
 use Rattle.cif_form.specs.Walk.WalkEnd.{Whole, Broken}
 use Rattle.cif_form.proofs.Fitting.{IsUnsigned}
@@ -111,45 +111,29 @@ labels_nest : (ls : List ChipLabel) → Nests false (map label_of ls)
 labels_nest [] = refl
 labels_nest (l ∷ ls) = (false, refl, labels_nest ls)
 
--- ---- the laws of walks and expansions that are used
+-- ---- the laws of walks that are used
 
 pub record AreLaws : Type 0 where
-  pub expansion : (items : List Item) (shapes others : List Rect) (labels names : List FlatLabel)
-      → Expands [] None items shapes labels → Expands [] None items others names
-      → (shapes ≡ others) × (labels ≡ names)
-  pub walk : (items : List Item) (shapes others : List Rect) (labels names : List FlatLabel) (end last : WalkEnd)
-      → FileWalks items shapes labels end → FileWalks items others names last
-      → (shapes ≡ others) × (labels ≡ names) × (end ≡ last)
-  pub draws : (items : List Item) (shapes : List Rect) (labels : List FlatLabel)
-      → FileWalks items shapes labels Whole → Expands [] None items shapes labels
+  pub walk : WalkIsUnique
   pub limit : CountKeepsLimit
 
 module _ (laws : AreLaws) (items : List Item) (shapes : List Rect) (flat : List FlatLabel)
-    (expands : Expands [] None items shapes flat)
-    (ends : Ends (start items)) where
+    (ends : Ends (start items) shapes flat) where
   -- within the limit the walk is whole
   walks_whole : (n : ℕ) → FileCounts items n → n ≤ walk_limit → FileWalks items shapes flat Whole
-  walks_whole n counts few = elim ends.fine [
-    | inl e ↦
-        let own : FileWalks items ends.shapes ends.labels Whole = subst
-        (FileWalks items ends.shapes ends.labels) e ends.walks in
-        let same = laws.expansion items ends.shapes shapes ends.labels flat
-        (laws.draws items ends.shapes ends.labels own) expands in
-        subst (λ rs. FileWalks items rs flat Whole) same.0
-        (subst (λ ls. FileWalks items ends.shapes ls Whole) same.1 own)
-    | inr b ↦ absurd (laws.limit items n counts few ends.shapes ends.labels b.0
-        (subst (FileWalks items ends.shapes ends.labels) b.1 ends.walks))
+  walks_whole n counts few = elim ends [
+    | inl w ↦ w
+    | inr (rs, ls, offset, w) ↦ absurd (laws.limit items n counts few rs ls offset w)
   ]
 
   breaks_count : (rs : List Rect) (ls : List FlatLabel) (rule : DrawRule) (offset : ℕ)
       → FileWalks items rs ls (Broken rule offset) → rule ≡ F7
-  breaks_count rs ls rule offset w =
-      let same = laws.walk items rs ends.shapes ls ends.labels (Broken rule offset) ends.end w ends.walks in
-      let e : Broken rule offset ≡ ends.end = same.2 in
-      elim ends.fine [
-        | inl f ↦ absurd (let g : Broken rule offset ≡ Whole = e ∙ f in cc)
-        | inr f ↦ let g : Broken rule offset ≡ Broken F7 f.0 = e ∙ f.1 in cc
-      ]
+  breaks_count rs ls rule offset w = elim ends [
+    | inl own ↦ absurd (let e : Broken rule offset ≡ Whole =
+        (laws.walk items rs shapes ls flat (Broken rule offset) Whole w own).2 in cc)
+    | inr (qs, ms, at, own) ↦ let e : Broken rule offset ≡ Broken F7 at =
+        (laws.walk items rs qs ls ms (Broken rule offset) (Broken F7 at) w own).2 in cc
+  ]
 
 -- ---- the chip
 
@@ -268,9 +252,9 @@ module _ (laws : AreLaws) (rects : List Rect) (labels : List ChipLabel) (symbols
           count = count_of symbols + length labels;
           counted = f.counts;
           few_walked = omega (arith, few, fewer, count, two);
-          walks = walks_whole laws (laid at all) (boxes_of symbols) follows.flat f.expands (f.ends 0)
+          walks = walks_whole laws (laid at all) (boxes_of symbols) follows.flat (f.ends [] 0)
               (count_of symbols + length labels) f.counts;
-          breaks = breaks_count laws (laid at all) (boxes_of symbols) follows.flat f.expands (f.ends 0);
+          breaks = breaks_count laws (laid at all) (boxes_of symbols) follows.flat (f.ends [] 0);
         }
 
     pub chip_emitted : IsEmitted rects labels all

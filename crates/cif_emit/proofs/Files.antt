@@ -26,25 +26,26 @@ use Rattle.cif_emit.proofs.Offsets.{behind, laid, laid-append, next}
 use Rattle.cif_emit.proofs.Drawn.{drawn}
 use Rattle.cif_emit.proofs.Painted.{Paints, paints_boxes_of}
 use Rattle.cif_emit.proofs.Raised.{all_placed, boxes_at, boxes_of, call_moves, motions}
-use Rattle.cif_emit.proofs.Expanded.{are_labels, boxes_inside, counts_boxes, definition, draws_boxes, flat_labels}
+use Rattle.cif_emit.proofs.Words.{flat_labels}
+use Rattle.cif_emit.proofs.Expanded.{are_labels, boxes_inside, boxes_unnamed, counts_boxes, definition, draws_boxes}
 use Rattle.cif_emit.proofs.Expanded.{labels_count, labels_expand}
 use Rattle.cif_emit.proofs.Walked.{Ends, boxes_end, call_ends, define_ends, labels_end, top}
 
 -- where these definitions stand, the commands draw the rectangles and labels, are n walked items, and their walk ends
 pub record Follows (ds : List Definition) (at : ℕ → ℕ) (cs : List Command) (rs : List Rect) (flat : List FlatLabel)
     (n : ℕ) : Type 0 where
-  pub expands : Expands ds None (laid at cs) rs flat
+  pub expands : Expands ds None (laid at cs) rs
   pub counts : CountsAtTop ds (laid at cs) n
-  pub ends : (k : ℕ) → Ends (top ds k (laid at cs))
+  pub ends : (names : List (List ℕ)) (k : ℕ) → Ends (top ds names k (laid at cs)) rs flat
 
 -- ---- the labels
 
 labels_follow : (ds : List Definition) (ls : List ChipLabel) → All IsPlainLabel ls → (at : ℕ → ℕ)
     → Follows ds at (map label_of ls) [] (flat_labels at ls) (length ls)
 labels_follow ds ls plain at = record {
-  expands = labels_expand ds ls plain at;
+  expands = labels_expand ds ls at;
   counts = labels_count ds ls at;
-  ends = λ k. labels_end ds ls plain at k;
+  ends = λ names k. labels_end ds ls plain at names k;
 }
 
 -- ---- the calls of a symbol
@@ -71,7 +72,7 @@ module _ (number : ℤ) (body : List Command) (rs : List Rect) (paints : Paints 
         → Follows (d ∷ ds) at (call_at number h ∷ cs) (map (raised h) rs ++ qs) flat (1 + length body + n)
     one_call h on near at cs qs flat n f =
         record {
-          expands = subst (λ ps. Expands (d ∷ ds) None (laid at (call_at number h ∷ cs)) (ps ++ qs) flat)
+          expands = subst (λ ps. Expands (d ∷ ds) None (laid at (call_at number h ∷ cs)) (ps ++ qs))
               (append-nil (map (placed (motions h)) rs) ∙ all_placed h rs)
               (Expands.draw (call_at number h) (map (placed (motions h)) rs ++ []) tt
               (Draws.call number (turns_of h) d (motions h) rs (Stands.newest refl)
@@ -81,8 +82,9 @@ module _ (number : ℤ) (body : List Command) (rs : List Rect) (paints : Paints 
           counts = subst (CountsAtTop (d ∷ ds) (laid at (call_at number h ∷ cs))) (omega arith)
               (CountsAtTop.item tt (Counts.call number (turns_of h) d refl (Stands.newest refl)
               (counts_boxes (d ∷ ds) paints within) Counts.none) f.counts);
-          ends = λ k. call_ends number h on (laid within body) ds k (at 0) (laid (next at) cs)
-              (boxes_end (d ∷ ds) _ number h paints near within (k + 1) (λ m. f.ends m));
+          ends = λ names k. subst (λ ps. Ends (top (d ∷ ds) names k (laid at (call_at number h ∷ cs))) (ps ++ qs) flat)
+              (all_placed h rs) (call_ends number h on (laid within body) ds names k (at 0) (laid (next at) cs)
+              (boxes_end (d ∷ ds) names _ number h paints near within (k + 1) qs flat (λ m. f.ends names m)));
         }
 
     calls : (hs : List ℤ) → All IsOnLambda hs → All (AreNearAt rs) hs → (at : ℕ → ℕ) (cs : List Command)
@@ -128,16 +130,17 @@ module _ (number : ℤ) (body : List Command) (rs : List Rect) (paints : Paints 
     defines cs qs flat n f =
         let same = sym (symbol_laid number body cs at) in
         let inside = boxes_inside paints (next at) in
+        let unnamed = boxes_unnamed paints (next at) in
         record {
-          expands = subst (λ is. Expands ds None is qs flat) same
-              (Expands.define number (pos 125) (pos 1) (laid (next at) body) _
-              (after_at body at 0) inside refl f.expands);
+          expands = subst (λ is. Expands ds None is qs) same
+              (Expands.define number (pos 125) (pos 1) None (laid (next at) body) _
+              (after_at body at 0) inside unnamed refl f.expands);
           counts = subst (λ is. CountsAtTop ds is n) same
-              (CountsAtTop.define number (pos 125) (pos 1) (laid (next at) body) _ (after_at body at 0) refl inside refl
-              f.counts);
-          ends = λ k. subst (λ is. Ends (top ds k is)) same
-              (define_ends number (laid (next at) body) inside ds k (at 0) (after_at body at 0)
-              (laid (next (after_at body at)) cs) f.ends);
+              (CountsAtTop.define number (pos 125) (pos 1) None (laid (next at) body) _ (after_at body at 0) refl inside
+              unnamed refl f.counts);
+          ends = λ names k. subst (λ is. Ends (top ds names k is) qs flat) same
+              (define_ends number (laid (next at) body) inside unnamed ds names k (at 0) (after_at body at 0)
+              (laid (next (after_at body at)) cs) (f.ends names));
         }
 
 -- ---- all symbols

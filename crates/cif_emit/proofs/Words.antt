@@ -21,10 +21,16 @@ use Rattle.fabric.specs.declared.chip.ChipLabel.{ChipLabel}
 use Rattle.fabric.specs.Even.{IsEven}
 use Rattle.cif_emit.specs.Emittable.{IsPlainLabel}
 use Rattle.cif_emit.specs.Commands.{label_words, label_of}
+use Rattle.cif_emit.proofs.Offsets.{next}
 
 -- the label of a chip, at an offset of a file
 abbrev pub flat_at : ℕ → ChipLabel → FlatLabel
 flat_at o l = record { offset = o; name = l.name; x = l.x; y = l.y; layer = Some l.layer }
+
+-- the labels at these offsets
+abbrev pub flat_labels : (ℕ → ℕ) → List ChipLabel → List FlatLabel
+flat_labels at [] = []
+flat_labels at (l ∷ ls) = flat_at (at 0) l ∷ flat_labels (next at) ls
 
 -- ---- numbers
 

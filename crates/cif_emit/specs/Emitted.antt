@@ -52,7 +52,7 @@ CommandsAreUnique = (chip : Chip) (commands others : List Command) → AreComman
 pub record IsDrawnBy (rects : List Rect) (labels : List ChipLabel) (items : List Item) : Type 0 where
   pub shapes : List Rect
   pub flat : List FlatLabel
-  pub expands : Expands [] None items shapes flat
+  pub expands : Expands [] None items shapes
   pub same : SameSquares (covered rects) (covered shapes)
   pub few : length shapes ≤ length rects
   pub labelled : AreLabelsOf labels flat

@@ -16,9 +16,7 @@ pub(crate) fn commands_draw_the_chip()
     ensures { (rects : List Rect) (labels : List ChipLabel) (symbols : List Symbol)
         → AreSymbolsFor rects labels symbols → IsEmitted rects labels (chip_commands symbols labels) }
 {
-    laws::expansion_is_unique();
     laws::walk_is_unique();
-    laws::walk_is_expansion();
     laws::walk_is_counted();
 }
 

@@ -1,11 +1,16 @@
 -- What is met at each kind of command.
 use Rattle.std.proofs.Common.{ℕ, ◌≡◌, ◌+◌, ◌^◌, ◌<◌, ◌≤◌, refl, sym, ◌∙◌, ap, subst, arith, inl, inr, List, [], ◌∷◌}
-use Rattle.std.proofs.Common.{◌++◌, zero, suc, length, map, All, append-nil, Some, None}
-use Rattle.std.specs.Prelude.{◌≢◌, ℤ, pos, negsuc, Contains, slice_get, slice_range}
+use Rattle.std.proofs.Common.{◌++◌, zero, suc, length, map, All, append-nil, get_or, true, false, Option, Some, None}
+use Rattle.std.specs.Prelude.{◌≢◌, ◌*◌, ◌/◌, ◌||◌, ℤ, pos, negsuc, Contains, slice_get, slice_range}
+use Rattle.std.specs.List.{AllZip}
+use Rattle.std.specs.Prelude.{is_some, IfSome, IfNone}
+use Rattle.std.proofs.Math.Nat.{le-mul_of_pos_right}
+use Rattle.std.proofs.lemmas.Bool.{false≢true}
 use Rattle.std.specs.List.{flat_map}
 use Rattle.std.proofs.lemmas.Int.{ints}
 use Rattle.std.proofs.lemmas.Option.{get_or_from_slice_get, slice_get_cases}
 use Rattle.std.proofs.lemmas.List.Elements.{All-nil, All-cons, All-head, All-tail, All-contains, All-map, All-weaker}
+use Rattle.std.proofs.lemmas.List.Elements.{Contains-get_or}
 use Rattle.lam_geom.specs.declared.layer.Layer.{Layer}
 use Rattle.lam_geom.specs.declared.layer.Layer.TheVariants.{ND}
 use Rattle.lam_geom.specs.declared.place.Point.{Point}
@@ -19,10 +24,9 @@ use Rattle.cif_form.specs.declared.command.Command.TheVariants.{Finish, Polygon,
 use Rattle.cif_form.specs.declared.command.Command.TheVariants.{Layer as SetLayer}
 use Rattle.cif_form.specs.declared.command.Item.{Item}
 use Rattle.cif_form.specs.Place.{layer_name, HasEdges, IsOnAxis, IsBox, segments, AreSegments}
-use Rattle.cif_form.specs.Walk.{Frame, Visit, Breaks, walk_limit}
-use Rattle.cif_form.specs.Labels.{IsLabelText, IsNoLabel}
+use Rattle.cif_form.specs.Walk.{Frame, Visit, Breaks, BreaksNone, IsWholePoint, IsLabelAt, IsNew, walk_limit}
 use Rattle.lam_geom.specs.declared.label.FlatLabel.{FlatLabel}
-use Rattle.cif_form.specs.Walk.DrawRule.{F3, F4, F7, F8}
+use Rattle.cif_form.specs.Walk.DrawRule.{F3, F4, F6, F7, F8}
 use Rattle.cif_form.specs.Fits.{Fits, IsSmall, point_numbers, turn_numbers}
 use Rattle.cif_form.specs.Expansion.{IsInside, item_at}
 use Rattle.cif_place.specs.declared.edges.Edges.{Edges}
@@ -35,10 +39,18 @@ use Rattle.cif_place.specs.Placing.{IsShort, IsShortPoint, IsFitRatio, IsHeld, s
 use Rattle.cif_place.specs.Shaping.{IsBoxEdges, IsNearAt, IsFarAt, IsStraight, HasAskewSegment, HaveEdges, drawn}
 use Rattle.cif_flat.specs.Sound.{Unsigned}
 use Rattle.cif_flat.specs.Refusing.{RefusesWalk, refusal_of}
-use Rattle.cif_flat.specs.Walking.{frame_of, onto, IsNested, IsLevel, IsWalking, IsVisit, IsAfter}
+use Rattle.cif_flat.specs.Meeting.{was_met, is_name}
+use Rattle.cif_flat.specs.Walking.{frame_of, onto, IsNested, IsLevel, IsWalking, IsFound, IsVisit, IsAfter}
 use Rattle.cif_flat.proofs.Rules.{none, first3, first4, first5, first6, first7, first8, first9, first10}
 use Rattle.cif_form.proofs.WalkExamples.{never}
-use Rattle.cif_flat.proofs.Walks.{visit_at, stops, onward, each_last, left_next, level_of, arrive, arrive_quiet}
+use Rattle.cif_flat.proofs.Namings.{met_more}
+use Rattle.cif_flat.proofs.Walks.{visit_at, stops, onward, each_last, left_next, level_of, arrive_named, arrive}
+use Rattle.cif_flat.proofs.Walks.{arrive_quiet}
+use Rattle.lam_geom.specs.Inside.{sides}
+use Rattle.poly_split.specs.Splitting.{IsFirstAskew, IsStraight as Straight}
+use Rattle.poly_split.specs.Moving.{FillingsAreLiftedBack}
+use Rattle.cif_place.specs.Pointing.{HasUnevenPoint, HasFarPoint, IsPlacedPoint, IsDrawnPolygon}
+use Rattle.cif_place.proofs.Points.{placed_near, placed_of}
 use Rattle.cif_place.specs.Laws.{OneBox, OneWire}
 use Rattle.cif_place.proofs.Numbers.{within_more}
 
@@ -131,7 +143,7 @@ short_turns (MirrorX ∷ ts) h = All-cons IsShortTurn MirrorX ts tt (short_turns
 short_turns (MirrorY ∷ ts) h = All-cons IsShortTurn MirrorY ts tt (short_turns ts h)
 
 pub held_here : (items : List Item) (w : Walker) (v : Level) (i : Item) → IsVisit items w v i
-    → IsHeld (2 ^ 126) v.placement
+    → IsHeld (2 ^ 104 * 8_000_000) v.placement
 held_here items w v i h =
     let l = level_of items w v i h in
     let m = h.walking.limit in (
@@ -148,11 +160,11 @@ ratio_here items w v i h = (level_of items w v i h).ratio
 length_onto : (items : List Item) (vs : List Level) (fs : List Frame)
     → length (onto items vs fs) ≡ length vs + length fs
 length_onto items [] fs = omega arith
-length_onto items (v ∷ vs) fs = omega (arith, length_onto items vs (frame_of items v ∷ fs))
+length_onto items (v ∷ vs) fs = omega (arith, length_onto items vs (frame_of items fs v ∷ fs))
 
 no_frames : (items : List Item) (vs : List Level) (fs : List Frame) → onto items vs fs ≡ [] → vs ≡ []
 no_frames items [] fs e = refl
-no_frames items (v ∷ vs) fs e = absurd (omega (arith, length_onto items vs (frame_of items v ∷ fs), ap length e))
+no_frames items (v ∷ vs) fs e = absurd (omega (arith, length_onto items vs (frame_of items fs v ∷ fs), ap length e))
 
 near_edges : (p : Placement) (es : List Edges) → All (λ r. IsNearRect (place_of p r)) (map (rect_of ND) es)
     → All (λ e. IsNearRect (place_of p (rect_of ND e))) es
@@ -171,6 +183,32 @@ some_segments [] h = absurd (omega arith)
 some_segments (p ∷ []) h = omega arith
 some_segments (p ∷ q ∷ []) h = omega arith
 some_segments (p ∷ q ∷ o ∷ ps) h = omega arith
+
+lt-le-absurd : {a b : ℕ} → a < b → b ≤ a → ⊥
+lt-le-absurd l m = omega (arith, l, m)
+
+pub some_askew : (ss : List (Point × Point)) (o : Option ℕ) → is_some o ≡ true → IfSome o (IsFirstAskew ss)
+    → (k : ℕ) × IsFirstAskew ss k
+some_askew ss None e h = cc
+some_askew ss (Some k) e h = (k, h)
+
+pub none_askew : (ss : List (Point × Point)) (o : Option ℕ) → is_some o ≡ false → IfNone o (All Straight ss)
+    → All Straight ss
+none_askew ss None e h = h
+none_askew ss (Some k) e h = cc
+
+pub polygon_short : (path : List Point) → Fits (Polygon path) → All IsShortPoint path
+polygon_short path f = short_points path f.signed
+
+-- a polygon of four points or more is some items
+some_weight : (n : ℕ) → 4 ≤ n → 0 < n * n / 4
+some_weight n h =
+    let m : n ≤ n * n = le-mul_of_pos_right n (omega (arith, h)) in
+    let k : 4 ≤ n * n = omega (arith, h, m) in
+    above (n * n) k
+  where
+    above : (m : ℕ) → 4 ≤ m → 0 < m / 4
+    above m k = omega (arith, k)
 
 module _ (items : List Item) (w : Walker) (v : Level) (o : ℕ) where
   -- ---- layers
@@ -371,31 +409,119 @@ module _ (items : List Item) (w : Walker) (v : Level) (o : ℕ) where
     user_counted k =
         stops items w v user_item h faults.F7 (first7 user_visit (omega (arith, k)) never never never never never never)
 
-    pub user_passed : w.count < walk_limit → (w.levels.items ≡ [] → digit ≡ 9 → IsNoLabel text) → (new : Walker)
+    user_breaks_none : w.count < walk_limit → BreaksNone user_visit
+    user_breaks_none k =
+        none user_visit never never never never never never (λ b. omega (arith, b, k)) never never never
+
+    pub user_passed : w.count < walk_limit → IsFound items w v o digit text None → (new : Walker)
         → new ≡ record w { count = w.count + 1; levels = new.levels }
         → new.levels.items ≡ w.levels.items ++ (onward v v.layer ∷ []) → IsAfter items w v new
-    user_passed k n new = arrive_quiet items w v user_item h v.layer new refl (omega arith)
-        (none user_visit never never never never never never (λ b. omega (arith, b)) never never never)
-        (inr ((λ e d. n (no_frames items w.levels.items [] e) d), refl), refl, refl) (λ b e. cc)
+    user_passed k found new =
+        arrive_quiet items w v user_item h v.layer new refl (omega arith) (user_breaks_none k)
+        (inr (comment, refl, refl), refl) (λ b e. cc)
+      where
+        comment : (label : FlatLabel) → IsLabelAt user_visit digit text label → ¬ IsNew user_visit label
+        comment label at (inl e) =
+            let f = found h.walking.definitions w.count h.walking.names (User digit text) label at in
+            omega (arith, f.0, ap length (no_frames items w.levels.items [] e))
+        comment label at (inr n) =
+            let f = found h.walking.definitions w.count h.walking.names (User digit text) label at in
+            n ((h.walking.met label.name).1 f.1)
 
-    pub user_labelled : w.count < walk_limit → w.levels.items ≡ [] → digit ≡ 9 → (label : FlatLabel)
-        → IsLabelText label text → label.offset ≡ o
+    pub user_labelled : w.count < walk_limit → (label : FlatLabel) → IsFound items w v o digit text (Some label)
+        → (m : Walker) → ((q : List ℕ) → was_met m.met q ≡ (is_name label.name q || was_met w.met q))
         → (labels : List FlatLabel) → labels ≡ w.labels ++ (label ∷ []) → (new : Walker)
-        → new ≡ record w { labels = labels; count = w.count + 1; levels = new.levels }
+        → new ≡ record w { met = m.met; labels = labels; count = w.count + 1; levels = new.levels }
         → new.levels.items ≡ w.levels.items ++ (onward v v.layer ∷ []) → IsAfter items w v new
-    user_labelled k top nine label is at labels el new =
-        arrive items w v user_item h v.layer [] (label ∷ []) 1 w.shapes labels new refl (omega arith) (omega arith)
-        (none user_visit never never never never never never (λ b. omega (arith, b)) never never never)
-        (inl (label, (ap (λ vs. onto items vs []) top, nine, at, is), refl), refl, refl) (λ b e. cc)
-        (sym (append-nil w.shapes)) el
+    user_labelled k label (at, new_name) m more labels el new =
+        arrive_named items w v user_item h v.layer [] (label ∷ []) 1 (label.name ∷ h.walking.names) m
+        (met_more label.name h.walking.names w.met m.met h.walking.met more) w.shapes labels new refl (omega arith)
+        (omega arith) (user_breaks_none k)
+        (inl (label, at h.walking.definitions w.count h.walking.names (User digit text), is_new, refl, refl), refl)
+        (λ b e. cc) (sym (append-nil w.shapes)) el
+      where
+        is_new : IsNew user_visit label
+        is_new = elim new_name [
+          | inl e ↦ inl (ap (λ vs. onto items vs []) e)
+          | inr e ↦ inr (λ c. false≢true (sym e ∙ (h.walking.met label.name).0 c))
+        ]
 
-  -- ---- polygons and round flashes
+  -- ---- polygons
 
-  pub polygon : (path : List Point) → IsVisit items w v (item_at o (Polygon path))
-      → RefusesWalk items (refusal_of faults.F6 o)
-  polygon path h =
-      stops items w v (item_at o (Polygon path)) h faults.F6
-      (first6 (visit_at items w v (item_at o (Polygon path)) h) tt never never never never never)
+  module _ (path : List Point) (h : IsVisit items w v (item_at o (Polygon path))) where
+    abbrev polygon_item : Item
+    polygon_item = item_at o (Polygon path)
+
+    abbrev polygon_visit : Visit
+    polygon_visit = visit_at items w v polygon_item h
+
+    pub polygon_uneven : HasUnevenPoint (scale_of v.ratio) path → RefusesWalk items (refusal_of faults.F4 o)
+    polygon_uneven u = stops items w v polygon_item h faults.F4 (first4 polygon_visit u never never never)
+
+    module _ (whole : All (IsWholePoint (scale_of v.ratio)) path) where
+      all_whole : ¬ Breaks polygon_visit F4
+      all_whole (p, c, n) = n (All-contains (IsWholePoint (scale_of v.ratio)) path p whole c)
+
+      pub polygon_few : length path < 4 → RefusesWalk items (refusal_of faults.F6 o)
+      polygon_few k =
+          stops items w v polygon_item h faults.F6 (first6 polygon_visit (inl k) never never never all_whole never)
+
+      pub polygon_askew : (k : ℕ) → IsFirstAskew (sides path) k → RefusesWalk items (refusal_of faults.F6 o)
+      polygon_askew k a =
+          let origin : Point = record { x = pos 0; y = pos 0 } in
+          let there = Contains-get_or (sides path) k (origin, origin) a.within in
+          stops items w v polygon_item h faults.F6
+          (first6 polygon_visit (inr (get_or (sides path) k (origin, origin), there, a.askew (origin, origin)))
+          never never never all_whole never)
+
+      module _ (four : 4 ≤ length path) (straight : All Straight (sides path)) where
+        has_sides : ¬ Breaks polygon_visit F6
+        has_sides (inl k) = omega (arith, k, four)
+        has_sides (inr (side, c, (x, y))) =
+            elim (All-contains Straight (sides path) side straight c) [ inl e ↦ x e | inr e ↦ y e ]
+
+        pub polygon_counted : walk_limit < w.count + length path * length path / 4
+            → RefusesWalk items (refusal_of faults.F7 o)
+        polygon_counted k =
+            stops items w v polygon_item h faults.F7 (first7 polygon_visit k never never never all_whole never has_sides)
+
+        module _ (k : w.count + length path * length path / 4 ≤ walk_limit) where
+          in_room : ¬ Breaks polygon_visit F7
+          in_room b = lt-le-absurd b k
+
+          pub polygon_far : HasFarPoint (scale_of v.ratio) v.placement path → RefusesWalk items (refusal_of faults.F8 o)
+          polygon_far far =
+              stops items w v polygon_item h faults.F8
+              (first8 polygon_visit far never never never all_whole never has_sides in_room)
+
+          module _ (points : List Point) (placed : AllZip (IsPlacedPoint (scale_of v.ratio) v.placement) path points) where
+            all_near : ¬ Breaks polygon_visit F8
+            all_near (p, q, c, s, far) = far (placed_near (scale_of v.ratio) v.placement path points p q placed c s)
+
+            pub polygon_unset : v.layer ≡ None → RefusesWalk items (refusal_of faults.F9 o)
+            polygon_unset n =
+                stops items w v polygon_item h faults.F9
+                (first9 polygon_visit n never never never all_whole never has_sides in_room all_near)
+
+            pub polygon_drawn : FillingsAreLiftedBack → (l : Layer) → v.layer ≡ Some l → (shapes : List Rect)
+                → IsDrawnPolygon l points w.shapes shapes → (new : Walker)
+                → new ≡ record w {
+                  shapes = shapes;
+                  count = w.count + length path * length path / 4;
+                  levels = new.levels;
+                }
+                → new.levels.items ≡ w.levels.items ++ (onward v v.layer ∷ []) → IsAfter items w v new
+            polygon_drawn lifted l s shapes (rs, fills, is) new kept pushed =
+                let from =
+                placed_of (scale_of v.ratio) v.placement lifted l path points rs placed straight fills in
+                arrive items w v polygon_item h v.layer rs [] (length path * length path / 4) shapes w.labels new refl
+                (some_weight (length path) four) k
+                (none polygon_visit never never never all_whole never has_sides in_room all_near
+                (λ n. let d : None ≡ Some l = sym n ∙ s in cc) never)
+                ((l, from.1, s, (from.0, from.2, from.3), from.4, refl), refl) (λ b e. cc) is
+                (sym (append-nil w.labels)) kept pushed
+
+  -- ---- round flashes
 
   pub round : (diameter : ℤ) (center : Point) → IsVisit items w v (item_at o (Round diameter center))
       → RefusesWalk items (refusal_of faults.F5 o)

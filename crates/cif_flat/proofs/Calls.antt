@@ -18,7 +18,7 @@ use Rattle.cif_form.specs.Place.{IsScale}
 use Rattle.cif_form.specs.Expansion.{Definition, Stands, item_at}
 use Rattle.cif_form.specs.Walk.{Frame, Visit, Breaks, within}
 use Rattle.cif_form.specs.Walk.DrawRule.{F1, F2, F4}
-use Rattle.cif_form.proofs.OneExpansion.{one_definition}
+use Rattle.cif_form.proofs.OneWalk.{one_definition}
 use Rattle.cif_flat.specs.declared.called.Composed.{Composed}
 use Rattle.cif_flat.specs.declared.fault.Fault.{Fault}
 use Rattle.cif_flat.specs.declared.fault.Fault.TheVariants as faults
@@ -32,6 +32,8 @@ use Rattle.cif_place.specs.Placing.{IsHeld, scale_of, place_of, after}
 use Rattle.cif_place.specs.Turning.{IsTurned, IsHeldTurned, HasUneven}
 use Rattle.cif_flat.specs.Calling.{IsCallOf, AreCalls, IsCallAt, IsCalled}
 use Rattle.cif_flat.specs.Refusing.{RefusesWalk, refusal_of}
+use Rattle.cif_form.specs.Names.{way_into}
+use Rattle.cif_flat.specs.Naming.{name_of}
 use Rattle.cif_flat.specs.Walking.{frame_of, symbol_of, onto, state_of, definition_of, IsNested, IsLevel, EachLevel}
 use Rattle.cif_flat.specs.Walking.{IsOpen, entered, Leads, IsWalking, IsVisit, rest, distance, IsAfter}
 use Rattle.cif_place.specs.Laws.{AfterPlaces, AfterHolds}
@@ -69,12 +71,16 @@ calls_set items old new at ratio turned turns a (o, n, e) t h here others k c g 
 -- ---- definitions that are being expanded
 
 frames_back : (items : List Item) (vs : List Level) (fs : List Frame) (f : Frame) → Contains (onto items vs fs) f
-    → ((v : Level) × Contains vs v × (f ≡ frame_of items v)) ⊎ Contains fs f
+    → ((v : Level) × Contains vs v × (f.symbol ≡ symbol_of v.symbol)) ⊎ Contains fs f
 frames_back items [] fs f h = inr h
-frames_back items (v ∷ vs) fs f h = elim (frames_back items vs (frame_of items v ∷ fs) f h) [
+frames_back items (v ∷ vs) fs f h = elim (frames_back items vs (frame_of items fs v ∷ fs) f h) [
   | inl a ↦ inl (a.0, Contains-append_right (v ∷ []) vs a.0 a.1, a.2)
-  | inr b ↦ elim (Contains-append_cases (frame_of items v ∷ []) fs f b) [
-    | inl c ↦ inl (v, Contains-append_left (v ∷ []) vs v (contains_one v), is_only_one (frame_of items v) f c)
+  | inr b ↦ elim (Contains-append_cases (frame_of items fs v ∷ []) fs f b) [
+    | inl c ↦ inl (
+      v,
+      Contains-append_left (v ∷ []) vs v (contains_one v),
+      ap (λ g. g.symbol) (is_only_one (frame_of items fs v) f c),
+    )
     | inr c ↦ inr c
   ]
 ]
@@ -83,16 +89,18 @@ frames_has : (items : List Item) (vs : List Level) (fs : List Frame) (f : Frame)
     → Contains (onto items vs fs) f
 frames_has items [] fs f h = h
 frames_has items (v ∷ vs) fs f h =
-    frames_has items vs (frame_of items v ∷ fs) f (Contains-append_right (frame_of items v ∷ []) fs f h)
+    frames_has items vs (frame_of items fs v ∷ fs) f (Contains-append_right (frame_of items fs v ∷ []) fs f h)
 
 frames_there : (items : List Item) (vs : List Level) (fs : List Frame) (v : Level) → Contains vs v
-    → Contains (onto items vs fs) (frame_of items v)
+    → (f : Frame) × Contains (onto items vs fs) f × (f.symbol ≡ symbol_of v.symbol)
 frames_there items [] fs v h = absurd (nothing_in v h)
 frames_there items (u ∷ vs) fs v h = elim (Contains-append_cases (u ∷ []) vs v h) [
-  | inl c ↦
-      subst (λ o. Contains (onto items vs (frame_of items o ∷ fs)) (frame_of items v)) (is_only_one u v c)
-      (frames_has items vs (frame_of items v ∷ fs) (frame_of items v) (contains_head (frame_of items v) fs))
-  | inr c ↦ frames_there items vs (frame_of items u ∷ fs) v c
+  | inl c ↦ (
+    frame_of items fs u,
+    frames_has items vs (frame_of items fs u ∷ fs) (frame_of items fs u) (contains_head (frame_of items fs u) fs),
+    ap (λ (o : Level). symbol_of o.symbol) (sym (is_only_one u v c)),
+  )
+  | inr c ↦ frames_there items vs (frame_of items fs u ∷ fs) v c
 ]
 
 some_symbol : (o : Option ℕ) (n : ℕ) → symbol_of o ≡ Some (pos n) → o ≡ Some n
@@ -131,12 +139,13 @@ module _ (items : List Item) (w : Walker) (v : Level) (o : ℕ) (n : ℤ) (ts : 
     no_f1 b = b (definition_of items key s) stands
 
     pub call_open : IsOpen all_levels key → RefusesWalk items (refusal_of faults.F2 o)
-    call_open (u, c, e) = stops items w v call_item h faults.F2 (first2 call_visit (
-      frame_of items u,
-      subst (λ fs. Contains fs (frame_of items u)) (onto_push items w.levels.items v [])
-          (frames_there items all_levels [] u c),
-      ap symbol_of e ∙ ap (λ m. Some m) is,
-    ) no_f1)
+    call_open (u, c, e) =
+        let there = frames_there items all_levels [] u c in
+        stops items w v call_item h faults.F2 (first2 call_visit (
+          there.0,
+          subst (λ fs. Contains fs there.0) (onto_push items w.levels.items v []) there.1,
+          there.2 ∙ ap symbol_of e ∙ ap (λ m. Some m) is,
+        ) no_f1)
 
     module _ (shut : ¬ IsOpen all_levels key) where
       no_f2 : ¬ Breaks call_visit F2
@@ -148,7 +157,7 @@ module _ (items : List Item) (w : Walker) (v : Level) (o : ℕ) (n : ℤ) (ts : 
                   a.0,
                   a.1,
                   some_symbol a.0.symbol key
-                      (sym (ap (λ g. g.symbol) a.2) ∙ e ∙ ap (λ m. Some m) (sym is)),
+                      (sym a.2 ∙ e ∙ ap (λ m. Some m) (sym is)),
                 )
             | inr b ↦ nothing_in f b
           ]
@@ -252,26 +261,35 @@ module _ (items : List Item) (w : Walker) (v : Level) (o : ℕ) (n : ℤ) (ts : 
             level_in
 
         came_in : (let t = within call_visit (definition_of items key s) a.5.0 in
-            t ≡ state_of items h.walking.definitions (w.count + 1) (outer_levels ++ (inner ∷ [])))
+            t ≡ state_of items h.walking.definitions (w.count + 1) h.walking.names (outer_levels ++ (inner ∷ [])))
         came_in =
             let fs =
             onto_push items outer_levels inner []
-            ∙ ap (λ gs. frame_of items inner ∷ gs) (onto_push items w.levels.items (onward v v.layer) []) in
-            let same : frame_of items inner ∷ frame_of items (onward v v.layer) ∷ onto items w.levels.items []
+            ∙ ap (λ gs. frame_of items gs inner ∷ gs) (onto_push items w.levels.items (onward v v.layer) []) in
+            let around = onto items w.levels.items [] in
+            let caller = frame_of items around (onward v v.layer) in
+            let same : frame_of items (caller ∷ around) inner ∷ caller ∷ around
             ≡ onto items (outer_levels ++ (inner ∷ [])) [] = sym fs in
             (λ i. record {
               definitions = h.walking.definitions;
               count = w.count + 1;
+              names = h.walking.names;
               frames =
                   record {
                     symbol = Some (pos key);
+                    way = way_into caller.way (name_of items s.named);
                     scale = scale_of s.ratio;
                     layer = None;
                     place = λ r. (ap (place_of v.placement) (a.5.2 r) ∙ sym (places v.placement p r)) i;
                     left = slice_range items s.first s.end;
                   }
-                  ∷ frame_of items (onward v v.layer) ∷ onto items w.levels.items [];
-            }) ∙ (λ i. record { definitions = h.walking.definitions; count = w.count + 1; frames = same i })
+                  ∷ caller ∷ around;
+            }) ∙ (λ i. record {
+              definitions = h.walking.definitions;
+              count = w.count + 1;
+              names = h.walking.names;
+              frames = same i;
+            })
 
         pub call_entered : (new : Walker) (calls : BTreeMap ℕ Composed) → AreCalls items calls
             → new ≡ record w { opened = opened; calls = calls; count = w.count + 1; levels = new.levels }
@@ -285,12 +303,14 @@ module _ (items : List Item) (w : Walker) (v : Level) (o : ℕ) (n : ℤ) (ts : 
               definitions = h.walking.definitions;
               table = h.walking.table;
               calls = ac;
+              names = h.walking.names;
+              met = h.walking.met;
               leads = subst
                   (λ xs. Leads items xs w.labels
-                  (state_of items h.walking.definitions (w.count + 1) (outer_levels ++ (inner ∷ []))))
+                  (state_of items h.walking.definitions (w.count + 1) h.walking.names (outer_levels ++ (inner ∷ []))))
                   (append-nil w.shapes)
                   (subst (λ ys. Leads items (w.shapes ++ []) ys
-                  (state_of items h.walking.definitions (w.count + 1) (outer_levels ++ (inner ∷ []))))
+                  (state_of items h.walking.definitions (w.count + 1) h.walking.names (outer_levels ++ (inner ∷ []))))
                   (append-nil w.labels)
                   (subst (Leads items (w.shapes ++ []) (w.labels ++ [])) came_in leads));
               limit = omega (arith, a.3);

@@ -1,5 +1,5 @@
 -- What is met at definitions and deletions.
-use Rattle.std.proofs.Common.{ℕ, suc, ◌≡◌, ◌+◌, ◌-◌, ◌*◌, ◌<◌, ◌≤◌, ◌⊎◌, refl, sym, ◌∙◌, ap, subst, arith, inl, inr}
+use Rattle.std.proofs.Common.{ℕ, suc, ◌≡◌, ◌+◌, ◌-◌, ◌*◌, ◌<◌, ◌≤◌, ◌⊎◌, refl, sym, ◌∙◌, ap, subst, arith, inl, inr, Option}
 use Rattle.std.proofs.Common.{List, [], ◌∷◌, ◌++◌, length, take, drop, get_or, map, All, append-nil, Bool, true, false}
 use Rattle.std.proofs.Common.{cond, Some, None}
 use Rattle.std.specs.Prelude.{◌≢◌, ℤ, pos, ◌≤ℤ◌, slice_get, slice_range, filter, int_lt}
@@ -31,6 +31,8 @@ use Rattle.cif_flat.specs.declared.walker.Walker.{Walker}
 use Rattle.cif_place.specs.Placing.{scale_of}
 use Rattle.cif_flat.specs.Sound.{AreClosed, Unsigned}
 use Rattle.cif_flat.specs.Refusing.{RefusesWalk, refusal_of}
+use Rattle.cif_flat.specs.declared.symbol.Naming.{Naming}
+use Rattle.cif_flat.specs.Naming.{name_of, IsSymbolNaming}
 use Rattle.cif_flat.specs.Walking.{frame_of, left_of, onto, state_of, definition_of, IsAnyRatio, IsSymbol, IsTable}
 use Rattle.cif_flat.specs.Walking.{IsBodySize, IsNested, IsLevel, Leads, IsWalking, IsVisit, rest, distance, IsAfter}
 use Rattle.cif_flat.proofs.Arms.{small_short, fits_here}
@@ -212,8 +214,9 @@ module _ (items : List Item) (ds : List Definition) (old new : BTreeMap ℕ Symb
 
 -- the frames of one level
 one_frame : (items : List Item) (vs : List Level) (u : Level) → vs ≡ []
-    → onto items (vs ++ (u ∷ [])) [] ≡ frame_of items u ∷ []
-one_frame items vs u e = onto_push items vs u [] ∙ ap (λ ws. frame_of items u ∷ onto items ws []) e
+    → onto items (vs ++ (u ∷ [])) [] ≡ frame_of items (onto items vs []) u ∷ []
+one_frame items vs u e =
+    onto_push items vs u [] ∙ ap (λ ws. frame_of items (onto items vs []) u ∷ onto items ws []) e
 
 rest_top : (vs : List Level) (u : Level) → vs ≡ [] → rest (vs ++ (u ∷ [])) ≡ u.end - u.next
 rest_top vs u e = ap (λ ws. rest (ws ++ (u ∷ []))) e
@@ -226,23 +229,36 @@ module _ (items : List Item) (w : Walker) (v : Level) (item : Item) (h : IsVisit
   us = w.levels.items ++ (u ∷ [])
 
   pub came_top : (t : State) → Leads items (w.shapes ++ []) (w.labels ++ []) t
-      → t ≡ record { definitions = ds; count = w.count + n; frames = frame_of items u ∷ [] }
+      → t ≡ record {
+        definitions = ds;
+        count = w.count + n;
+        names = h.walking.names;
+        frames = frame_of items (onto items w.levels.items []) u ∷ [];
+      }
       → (new : Walker) → new ≡ record w { symbols = symbols; count = w.count + n; levels = new.levels }
       → new.levels.items ≡ us
       → 2 * (walk_limit - (w.count + n)) + (u.end - u.next) < 2 * (walk_limit - w.count) + (v.end - v.next)
       → IsAfter items w v new
   came_top t leads e new is pushed closer =
-      let at : t ≡ state_of items ds (w.count + n) us =
-      e ∙ (λ i.
-      record { definitions = ds; count = w.count + n; frames = sym (one_frame items w.levels.items u top) i }) in
+      let at : t ≡ state_of items ds (w.count + n) h.walking.names us =
+      e ∙ (λ i. record {
+        definitions = ds;
+        count = w.count + n;
+        names = h.walking.names;
+        frames = sym (one_frame items w.levels.items u top) i;
+      }) in
       let mid : Walker = record w { symbols = symbols; count = w.count + n; levels = new.levels } in
       let walking : IsWalking items mid us = record {
         definitions = ds;
         table = table;
         calls = h.walking.calls;
-        leads = subst (λ xs. Leads items xs w.labels (state_of items ds (w.count + n) us)) (append-nil w.shapes)
-            (subst (λ ys. Leads items (w.shapes ++ []) ys (state_of items ds (w.count + n) us)) (append-nil w.labels)
-            (subst (Leads items (w.shapes ++ []) (w.labels ++ [])) at leads));
+        names = h.walking.names;
+        met = h.walking.met;
+        leads =
+            subst (λ xs. Leads items xs w.labels (state_of items ds (w.count + n) h.walking.names us))
+            (append-nil w.shapes)
+            (subst (λ ys. Leads items (w.shapes ++ []) ys (state_of items ds (w.count + n) h.walking.names us))
+            (append-nil w.labels) (subst (Leads items (w.shapes ++ []) (w.labels ++ [])) at leads));
         limit = room;
         stack = each_push (IsLevel items (w.count + n) w.opened) w.levels.items u
             (each_weaker (IsLevel items w.count w.opened) (IsLevel items (w.count + n) w.opened) w.levels.items
@@ -361,9 +377,10 @@ module _ (items : List Item) (w : Walker) (v : Level) (o : ℕ) (number a b : �
     abbrev resumed : Level
     resumed = record v { next = first + n + 1 }
 
-    module _ (key : ℕ) (is : pos key ≡ number) (ratio : Ratio) (er : ratio ≡ record { a = a; b = b }) where
+    module _ (key : ℕ) (is : pos key ≡ number) (ratio : Ratio) (er : ratio ≡ record { a = a; b = b })
+        (named : Option Naming) (called : IsSymbolNaming items (slice_range items first (first + n)) named) where
       abbrev symbol : Symbol
-      symbol = record { ratio = ratio; first = first; end = first + n }
+      symbol = record { ratio = ratio; named = named; first = first; end = first + n }
 
       start_ratio : IsAnyRatio ratio
       start_ratio =
@@ -394,20 +411,31 @@ module _ (items : List Item) (w : Walker) (v : Level) (o : ℕ) (number a b : �
           let l = level_of items w v start_item h in
           let m = level_later items w.count (w.count + 0) w.opened (length w.levels.items) v (omega arith) l in
           let d : Definition =
-          record { number = number; scale = record { a = a; b = b }; body = slice_range items first (first + n) } in
+          record {
+            number = number;
+            scale = record { a = a; b = b };
+            name = name_of items named;
+            body = slice_range items first (first + n);
+          } in
           let same : d ∷ ds ≡ definition_of items key symbol ∷ ds =
-          (λ i. record { number = sym is i; scale = scale_of (sym er i); body = slice_range items first (first + n) }
-          ∷ ds) in
+          (λ i. record {
+            number = sym is i;
+            scale = scale_of (sym er i);
+            name = name_of items named;
+            body = slice_range items first (first + n);
+          } ∷ ds) in
           let t = at_top start_visit (d ∷ ds) (slice_range items (first + n + 1) v.end) in
           let limit = h.walking.limit in
           let leads =
           leads_step items w v start_item h [] [] t
           (none start_visit never never never never never never (λ k. omega (arith, k, limit)) never never never) (
+            name_of items named,
             slice_range items first (first + n),
             slice_range items (first + n + 1) v.end,
             s.offset,
             ap (λ vs. onto items vs []) start_top,
             subst (All (λ i. IsInside i.command)) body_is s.inside,
+            called,
             after_is,
             refl,
             refl,
@@ -427,7 +455,12 @@ module _ (items : List Item) (w : Walker) (v : Level) (o : ℕ) (number a b : �
           came_top items w v start_item h start_top resumed 0 symbols (definition_of items key symbol ∷ ds)
           (table_set items ds w.symbols symbols key symbol h.walking.table start_symbol here others) level
           (omega (arith, limit)) t leads
-          (λ i. record { definitions = same i; count = w.count + 0; frames = frame_of items resumed ∷ [] }) new kept
+          (λ i. record {
+            definitions = same i;
+            count = w.count + 0;
+            names = h.walking.names;
+            frames = frame_of items (onto items w.levels.items []) resumed ∷ [];
+          }) new kept
           pushed (omega (arith, body_room, h.more))
 
 -- a definition's number isn't negative

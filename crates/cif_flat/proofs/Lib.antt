@@ -6,3 +6,6 @@ pub mod Defines
 pub mod Loop
 pub mod Words
 pub mod Reading
+pub mod Namings
+pub mod Named
+pub mod Found

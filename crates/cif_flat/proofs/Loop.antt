@@ -1,7 +1,12 @@
 -- The walk begins, goes back from a level that is done, and ends.
 use Rattle.std.proofs.Common.{ℕ, ◌≡◌, ◌-◌, ◌<◌, ◌≤◌, sym, ◌∙◌, ap, subst, arith, List, [], ◌∷◌, ◌++◌, length}
-use Rattle.std.proofs.Common.{append-nil, false, Some, None}
-use Rattle.std.specs.Prelude.{slice_range}
+use Rattle.std.proofs.Common.{append-nil, true, false, Some, None}
+use Rattle.std.specs.Prelude.{slice_range, nat_eq, Vec}
+use Rattle.std.specs.List.{list_any}
+use Rattle.std.specs.HashSet.{HashSet}
+use Rattle.std.specs.Cmp.Lexicographic.{pointwise}
+use Rattle.std.proofs.lemmas.Bool.{false≢true}
+use Rattle.mp_base.proofs.Contents.{nothing_in}
 use Rattle.std.specs.BTreeMap.{BTreeMap, get, is_at}
 use Rattle.std.specs.Map.{lookup}
 use Rattle.std.specs.Ordering.{nat_cmp}
@@ -14,6 +19,7 @@ use Rattle.cif_form.specs.Walk.WalkEnd.{Whole}
 use Rattle.cif_flat.specs.declared.level.Level.{Level}
 use Rattle.cif_flat.specs.declared.walker.Walker.{Walker}
 use Rattle.cif_flat.specs.Sound.{AreClosed}
+use Rattle.cif_flat.specs.Meeting.{was_met}
 use Rattle.cif_flat.specs.Walking.{frame_of, onto, state_of, top, IsLevel, Leads, IsWalking, distance}
 use Rattle.cif_place.specs.Laws.{HereLeaves}
 use Rattle.cif_flat.proofs.Walks.{onto_push, left_none, each_nil, each_front, each_push}
@@ -23,21 +29,32 @@ use Rattle.cif_flat.proofs.Walks.{onto_push, left_none, each_nil, each_front, ea
 empty_table : {X : Type 0} (m : BTreeMap ℕ X) → m.entries ≡ [] → (k : ℕ) → get nat_cmp m k ≡ None
 empty_table m e k = ap (lookup (is_at (nat_cmp k))) e
 
+none_met : {A S : Type 0} (met : HashSet (Vec ℕ A) S) → met.keys ≡ [] → (q : List ℕ) → ¬ (was_met met q ≡ true)
+none_met met e q h = false≢true (sym (ap (list_any (λ k. pointwise nat_eq q k.items)) e) ∙ h)
+
 all_items : (items : List Item) → slice_range items 0 (length items) ≡ items
 all_items items = take_all (length items - 0) items (omega arith)
 
 module _ (items : List Item) (w : Walker) (closed : AreClosed false items) (symbols : w.symbols.entries ≡ [])
-    (calls : w.calls.entries ≡ []) (count : w.count ≡ 0) (shapes : w.shapes ≡ []) (labels : w.labels ≡ [])
+    (calls : w.calls.entries ≡ []) (met : w.met.keys ≡ []) (count : w.count ≡ 0) (shapes : w.shapes ≡ []) (labels : w.labels ≡ [])
     (leaves : HereLeaves) where
   abbrev level : Level
   level = top (length items)
 
-  began : state_of items [] 0 (level ∷ []) ≡ start items
+  began : state_of items [] 0 [] (level ∷ []) ≡ start items
   began = λ i. record {
     definitions = [];
     count = 0;
+    names = [];
     frames =
-        record { symbol = None; scale = unit; layer = None; place = λ r. leaves r i; left = all_items items i } ∷ [];
+        record {
+          symbol = None;
+          way = Some [];
+          scale = unit;
+          layer = None;
+          place = λ r. leaves r i;
+          left = all_items items i;
+        } ∷ [];
   }
 
   first_level : IsLevel items 0 w.opened 0 level
@@ -57,7 +74,7 @@ module _ (items : List Item) (w : Walker) (closed : AreClosed false items) (symb
 
   pub walking_start : (vs : List Level) → vs ≡ level ∷ [] → IsWalking items w vs
   walking_start vs is =
-      let leads : Leads items [] [] (state_of items [] 0 (level ∷ [])) =
+      let leads : Leads items [] [] (state_of items [] 0 [] (level ∷ [])) =
       λ rs ls e k. subst (λ s. Walks s rs ls e) began k in
       subst (IsWalking items w) (sym is) (record {
         definitions = [];
@@ -67,9 +84,11 @@ module _ (items : List Item) (w : Walker) (closed : AreClosed false items) (symb
           fits = λ n s g. absurd (let f : None ≡ Some s = sym (empty_table w.symbols symbols n) ∙ g in cc);
         };
         calls = λ k c g i s. absurd (let f : None ≡ Some c = sym (empty_table w.calls calls k) ∙ g in cc);
-        leads = subst (λ n. Leads items w.shapes w.labels (state_of items [] n (level ∷ []))) (sym count)
-            (subst (λ xs. Leads items xs w.labels (state_of items [] 0 (level ∷ []))) (sym shapes)
-            (subst (λ ys. Leads items [] ys (state_of items [] 0 (level ∷ []))) (sym labels) leads));
+        names = [];
+        met = λ q. ((λ c. absurd (nothing_in q c)), (λ c. absurd (none_met w.met met q c)));
+        leads = subst (λ n. Leads items w.shapes w.labels (state_of items [] n [] (level ∷ []))) (sym count)
+            (subst (λ xs. Leads items xs w.labels (state_of items [] 0 [] (level ∷ []))) (sym shapes)
+            (subst (λ ys. Leads items [] ys (state_of items [] 0 [] (level ∷ []))) (sym labels) leads));
         limit = omega (arith, count);
         stack = each_push (IsLevel items w.count w.opened) [] level (each_nil (IsLevel items w.count w.opened))
             (subst (λ n. IsLevel items n w.opened 0 level) (sym count) first_level);
@@ -87,6 +106,8 @@ same_walking items w vs new e h =
       definitions = h.definitions;
       table = h.table;
       calls = h.calls;
+      names = h.names;
+      met = h.met;
       leads = h.leads;
       limit = h.limit;
       stack = h.stack;
@@ -99,8 +120,10 @@ module _ (items : List Item) (w : Walker) (vs : List Level) (v : Level) (h : IsW
     definitions = h.definitions;
     table = h.table;
     calls = h.calls;
+    names = h.names;
+    met = h.met;
     leads = λ rs ls e k. h.leads rs ls e
-        (Walks.back (frame_of items v) (onto items vs []) (onto_push items vs v []) (left_none items v done) k);
+        (Walks.back (frame_of items (onto items vs []) v) (onto items vs []) (onto_push items vs v []) (left_none items v done) k);
     limit = h.limit;
     stack = each_front (IsLevel items w.count w.opened) vs v h.stack;
   }
@@ -114,6 +137,6 @@ closer_back count (u ∷ vs) v = omega (arith, length-append vs (v ∷ []))
 pub walked : (items : List Item) (w : Walker) (vs : List Level) → vs ≡ [] → IsWalking items w vs
     → FileWalks items w.shapes w.labels Whole
 walked items w vs e h =
-    let k : Walks (state_of items h.definitions w.count vs) [] [] Whole = Walks.done (ap (λ us. onto items us []) e) in
+    let k : Walks (state_of items h.definitions w.count h.names vs) [] [] Whole = Walks.done (ap (λ us. onto items us []) e) in
     subst (λ xs. FileWalks items xs w.labels Whole) (append-nil w.shapes)
     (subst (λ ys. FileWalks items (w.shapes ++ []) ys Whole) (append-nil w.labels) (h.leads [] [] Whole k))

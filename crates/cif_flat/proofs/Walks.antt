@@ -27,14 +27,14 @@ use Rattle.cif_place.proofs.Numbers.{within_more}
 use Rattle.cif_flat.specs.Sound.{AreClosed}
 use Rattle.cif_flat.specs.Refusing.{RefusesWalk, rule_of, refusal_of}
 use Rattle.cif_flat.specs.Walking.{frame_of, left_of, onto, state_of, visit_of, IsNested, IsLevel, EachLevel, Leads}
-use Rattle.cif_flat.specs.Walking.{IsWalking, IsVisit, rest, distance, IsAfter}
+use Rattle.cif_flat.specs.Walking.{AreMet, IsWalking, IsVisit, rest, distance, IsAfter}
 
 -- ---- frames
 
 pub onto_push : (items : List Item) (vs : List Level) (v : Level) (fs : List Frame)
-    → onto items (vs ++ (v ∷ [])) fs ≡ frame_of items v ∷ onto items vs fs
+    → onto items (vs ++ (v ∷ [])) fs ≡ frame_of items (onto items vs fs) v ∷ onto items vs fs
 onto_push items [] v fs = refl
-onto_push items (u ∷ vs) v fs = onto_push items vs v (frame_of items u ∷ fs)
+onto_push items (u ∷ vs) v fs = onto_push items vs v (frame_of items fs u ∷ fs)
 
 -- the items of a level are its next and those behind
 pub left_next : (items : List Item) (v : Level) (i : Item) → v.next < v.end → slice_get items v.next ≡ Some i
@@ -54,13 +54,14 @@ left_next items v i more here =
 pub left_none : (items : List Item) (v : Level) → v.end ≤ v.next → left_of items v ≡ []
 left_none items v h = let e : v.end - v.next ≡ 0 = omega arith in ap (λ n. take n (drop v.next items)) e
 
-module _ (items : List Item) (ds : List Definition) (count : ℕ) (vs : List Level) (v : Level) (item : Item)
-    (more : v.next < v.end) (here : slice_get items v.next ≡ Some item) where
-  visits : Visits (state_of items ds count (vs ++ (v ∷ []))) (visit_of items ds count vs v item)
+module _ (items : List Item) (ds : List Definition) (count : ℕ) (names : List (List ℕ)) (vs : List Level) (v : Level)
+    (item : Item) (more : v.next < v.end) (here : slice_get items v.next ≡ Some item) where
+  visits : Visits (state_of items ds count names (vs ++ (v ∷ []))) (visit_of items ds count names vs v item)
   visits =
       record {
         definitions = refl;
         count = refl;
+        names = refl;
         frames = onto_push items vs v [];
         left = left_next items v item more here;
       }
@@ -122,7 +123,7 @@ abbrev pub onward : Level → Option Layer → Level
 onward v l = record v { layer = l; next = v.next + 1 }
 
 abbrev pub visit_at : (items : List Item) (w : Walker) (v : Level) (item : Item) → IsVisit items w v item → Visit
-visit_at items w v item h = visit_of items h.walking.definitions w.count w.levels.items v item
+visit_at items w v item h = visit_of items h.walking.definitions w.count h.walking.names w.levels.items v item
 
 -- a command breaks a rule
 pub stops : (items : List Item) (w : Walker) (v : Level) (item : Item) (h : IsVisit items w v item) (fault : Fault)
@@ -137,7 +138,7 @@ stops items w v item h fault b = (
     refl,
     h.walking.leads [] [] (Broken (rule_of fault) item.offset)
         (Walks.broken (visit_at items w v item h) (rule_of fault)
-        (visits items h.walking.definitions w.count w.levels.items v item h.more h.here) b),
+        (visits items h.walking.definitions w.count h.walking.names w.levels.items v item h.more h.here) b),
   ),
 )
 
@@ -151,7 +152,7 @@ leads_step items w v item h qs ms t n s = λ rs ls e k.
     (subst (λ xs. Walks (start items) (w.shapes ++ (qs ++ rs)) xs e) (sym (append_assoc w.labels ms ls))
     (h.walking.leads (qs ++ rs) (ms ++ ls) e
     (Walks.step (visit_at items w v item h) qs ms t
-    (visits items h.walking.definitions w.count w.levels.items v item h.more h.here) n s k)))
+    (visits items h.walking.definitions w.count h.walking.names w.levels.items v item h.more h.here) n s k)))
 
 pub level_onward : (items : List Item) (m n : ℕ) (opened : BTreeMap ℕ ℕ) (k : ℕ) (v : Level) (l : Option Layer)
     (i : Item) → m ≤ n → v.next < v.end → left_of items v ≡ i ∷ slice_range items (v.next + 1) v.end
@@ -185,12 +186,17 @@ module _ (items : List Item) (w : Walker) (v : Level) (item : Item) (h : IsVisit
   abbrev vs : List Level
   vs = w.levels.items ++ (onward v l ∷ [])
 
-  came : n ≡ weight item.command
-      → (let t = on_layer (visit_at items w v item h) l in t ≡ state_of items h.walking.definitions (w.count + n) vs)
-  came e =
+  -- the state behind the command, where labels of these names were met
+  abbrev named : List (List ℕ) → State
+  named names = record (on_layer (visit_at items w v item h) l) { names = names }
+
+  came : (names : List (List ℕ)) → n ≡ weight item.command
+      → (let t = named names in t ≡ state_of items h.walking.definitions (w.count + n) names vs)
+  came names e =
       λ i. record {
         definitions = h.walking.definitions;
         count = w.count + sym e i;
+        names = names;
         frames = sym (onto_push items w.levels.items (onward v l) []) i;
       }
 
@@ -204,23 +210,29 @@ module _ (items : List Item) (w : Walker) (v : Level) (item : Item) (h : IsVisit
       (level_onward items w.count (w.count + n) w.opened (length w.levels.items) v l item (omega arith) h.more
       (left_next items v item h.more h.here) plain (level_of items w v item h))
 
-  pub arrive : (shapes : List Rect) (labels : List FlatLabel) (new : Walker) → n ≡ weight item.command → 0 < n
+  -- `m` has the names that were met
+  pub arrive_named : (names : List (List ℕ)) (m : Walker) → AreMet names m.met
+      → (shapes : List Rect) (labels : List FlatLabel) (new : Walker) → n ≡ weight item.command → 0 < n
       → w.count + n ≤ walk_limit
       → BreaksNone (visit_at items w v item h)
-      → Steps (visit_at items w v item h) qs ms (on_layer (visit_at items w v item h) l) → IsPlain
+      → Steps (visit_at items w v item h) qs ms (named names) → IsPlain
       → shapes ≡ w.shapes ++ qs → labels ≡ w.labels ++ ms
-      → new ≡ record w { shapes = shapes; labels = labels; count = w.count + n; levels = new.levels }
+      → new ≡ record w { met = m.met; shapes = shapes; labels = labels; count = w.count + n; levels = new.levels }
       → new.levels.items ≡ vs → IsAfter items w v new
-  arrive shapes labels new wn some room none steps plain es el is pushed =
-      let leads = leads_step items w v item h qs ms (on_layer (visit_at items w v item h) l) none steps in
-      let mid : Walker = record w { shapes = shapes; labels = labels; count = w.count + n; levels = new.levels } in
+  arrive_named names m are shapes labels new wn some room none steps plain es el is pushed =
+      let leads = leads_step items w v item h qs ms (named names) none steps in
+      let mid : Walker =
+      record w { met = m.met; shapes = shapes; labels = labels; count = w.count + n; levels = new.levels } in
       let walking : IsWalking items mid vs = record {
         definitions = h.walking.definitions;
         table = h.walking.table;
         calls = h.walking.calls;
-        leads = subst (λ xs. Leads items xs labels (state_of items h.walking.definitions (w.count + n) vs)) (sym es)
-            (subst (λ ys. Leads items (w.shapes ++ qs) ys (state_of items h.walking.definitions (w.count + n) vs))
-            (sym el) (subst (Leads items (w.shapes ++ qs) (w.labels ++ ms)) (came wn) leads));
+        names = names;
+        met = are;
+        leads =
+            subst (λ xs. Leads items xs labels (state_of items h.walking.definitions (w.count + n) names vs)) (sym es)
+            (subst (λ ys. Leads items (w.shapes ++ qs) ys (state_of items h.walking.definitions (w.count + n) names vs))
+            (sym el) (subst (Leads items (w.shapes ++ qs) (w.labels ++ ms)) (came names wn) leads));
         limit = room;
         stack = stack plain;
       } in
@@ -235,6 +247,15 @@ module _ (items : List Item) (w : Walker) (v : Level) (item : Item) (h : IsVisit
             (subst (λ us. distance (w.count + n) us < distance w.count (w.levels.items ++ (v ∷ []))) (sym pushed)
             (omega (arith, less, size)));
       }
+
+  pub arrive : (shapes : List Rect) (labels : List FlatLabel) (new : Walker) → n ≡ weight item.command → 0 < n
+      → w.count + n ≤ walk_limit
+      → BreaksNone (visit_at items w v item h)
+      → Steps (visit_at items w v item h) qs ms (on_layer (visit_at items w v item h) l) → IsPlain
+      → shapes ≡ w.shapes ++ qs → labels ≡ w.labels ++ ms
+      → new ≡ record w { shapes = shapes; labels = labels; count = w.count + n; levels = new.levels }
+      → new.levels.items ≡ vs → IsAfter items w v new
+  arrive = arrive_named h.walking.names w h.walking.met
 
 -- nothing is drawn
 pub arrive_quiet : (items : List Item) (w : Walker) (v : Level) (item : Item) (h : IsVisit items w v item)

@@ -1,17 +1,20 @@
 -- What the code's walk stands for.
-use Rattle.std.specs.Prelude.{ℕ, zero, suc, ◌+◌, ◌*◌, ◌-◌, ◌<◌, ◌≤◌, ◌≡◌, ◌^◌, List, [], ◌∷◌, ◌++◌, length, take, drop}
-use Rattle.std.specs.Prelude.{All, Contains, false, Option, Some, None, ℤ, pos, ◌≤ℤ◌, slice_range, slice_get}
+use Rattle.std.specs.Prelude.{ℕ, zero, suc, ◌+◌, ◌*◌, ◌-◌, ◌<◌, ◌≤◌, ◌≡◌, ◌⊎◌, ◌↔◌, ◌^◌, List, [], ◌∷◌, ◌++◌, length, take}
+use Rattle.std.specs.Prelude.{drop, Vec, All, Contains, true, false, Option, Some, None, ℤ, pos, ◌≤ℤ◌, slice_range, slice_get}
 use Rattle.std.specs.Prelude.{slice_index_or}
 use Rattle.std.specs.BTreeMap.{BTreeMap, get}
+use Rattle.std.specs.HashSet.{HashSet}
 use Rattle.std.specs.Ordering.{nat_cmp}
 use Rattle.lam_geom.specs.declared.rect.Rect.{Rect}
 use Rattle.lam_geom.specs.declared.label.FlatLabel.{FlatLabel}
+use Rattle.cif_form.specs.declared.command.Command.{Command}
 use Rattle.cif_form.specs.declared.command.Command.TheVariants.{Finish}
 use Rattle.cif_form.specs.declared.command.Item.{Item}
 use Rattle.cif_form.specs.declared.limits.TheConstants.{NUMBER_LIMIT}
 use Rattle.cif_form.specs.Fits.{Fits}
 use Rattle.cif_form.specs.Expansion.{Definition, Stands, IsInside, item_at}
-use Rattle.cif_form.specs.Walk.{Frame, State, Visit, WalkEnd, Walks, FileWalks, walk_limit}
+use Rattle.cif_form.specs.Names.{way_into}
+use Rattle.cif_form.specs.Walk.{Frame, State, Visit, WalkEnd, Walks, FileWalks, IsLabelAt, walk_limit}
 use Rattle.cif_flat.specs.declared.level.Level.{Level}
 use Rattle.cif_place.specs.declared.placement.Placement.{Placement}
 use Rattle.cif_flat.specs.declared.symbol.Symbol.{Symbol}
@@ -19,6 +22,8 @@ use Rattle.cif_flat.specs.declared.walker.Walker.{Walker}
 use Rattle.cif_place.specs.declared.ratio.Ratio.{Ratio}
 use Rattle.cif_place.specs.Placing.{IsFitRatio, scale_of, place_of, after, here, IsHeld}
 use Rattle.cif_flat.specs.Calling.{AreCalls}
+use Rattle.cif_flat.specs.Naming.{name_of}
+use Rattle.cif_flat.specs.Meeting.{was_met}
 use Rattle.cif_flat.specs.Sound.{AreClosed}
 
 -- ---- frames
@@ -30,9 +35,15 @@ symbol_of (Some n) = Some (pos n)
 abbrev pub left_of : List Item → Level → List Item
 left_of items v = slice_range items v.next v.end
 
-abbrev pub frame_of : List Item → Level → Frame
-frame_of items v = record {
+-- how the names of labels begin in a symbol, or at top level, where the frames are those around it
+abbrev pub way_within : List Frame → Option (List ℕ) → Option (List ℕ)
+way_within [] name = Some []
+way_within (f ∷ fs) name = way_into f.way name
+
+abbrev pub frame_of : List Item → List Frame → Level → Frame
+frame_of items fs v = record {
   symbol = symbol_of v.symbol;
+  way = way_within fs (name_of items v.named);
   scale = scale_of v.ratio;
   layer = v.layer;
   place = place_of v.placement;
@@ -42,16 +53,18 @@ frame_of items v = record {
 -- the frames of levels, the last of them first, on top of others
 abbrev pub onto : List Item → List Level → List Frame → List Frame
 onto items [] fs = fs
-onto items (v ∷ vs) fs = onto items vs (frame_of items v ∷ fs)
+onto items (v ∷ vs) fs = onto items vs (frame_of items fs v ∷ fs)
 
-abbrev pub state_of : List Item → List Definition → ℕ → List Level → State
-state_of items ds count vs = record { definitions = ds; count = count; frames = onto items vs [] }
+abbrev pub state_of : List Item → List Definition → ℕ → List (List ℕ) → List Level → State
+state_of items ds count names vs =
+    record { definitions = ds; count = count; names = names; frames = onto items vs [] }
 
-abbrev pub visit_of : List Item → List Definition → ℕ → List Level → Level → Item → Visit
-visit_of items ds count vs v item = record {
+abbrev pub visit_of : List Item → List Definition → ℕ → List (List ℕ) → List Level → Level → Item → Visit
+visit_of items ds count names vs v item = record {
   definitions = ds;
   count = count;
-  frame = frame_of items v;
+  names = names;
+  frame = frame_of items (onto items vs []) v;
   outer = onto items vs [];
   item = item;
   after = slice_range items (v.next + 1) v.end;
@@ -60,7 +73,12 @@ visit_of items ds count vs v item = record {
 -- ---- tables
 
 abbrev pub definition_of : List Item → ℕ → Symbol → Definition
-definition_of items n s = record { number = pos n; scale = scale_of s.ratio; body = slice_range items s.first s.end }
+definition_of items n s = record {
+  number = pos n;
+  scale = scale_of s.ratio;
+  name = name_of items s.named;
+  body = slice_range items s.first s.end;
+}
 
 -- neither number is negative, and both are small
 pub record IsAnyRatio (r : Ratio) : Type 0 where
@@ -108,6 +126,7 @@ abbrev pub top : ℕ → Level
 top size =
     record {
       symbol = None;
+      named = None;
       ratio = record { a = pos 1; b = pos 1 };
       layer = None;
       placement = here;
@@ -131,6 +150,7 @@ IsOpen vs n = (v : Level) × Contains vs v × (v.symbol ≡ Some n)
 abbrev pub entered : Level → ℕ → Symbol → Placement → Level
 entered v n s p = record {
   symbol = Some n;
+  named = s.named;
   ratio = s.ratio;
   layer = None;
   placement = after v.placement p;
@@ -139,6 +159,10 @@ entered v n s p = record {
 }
 
 -- ---- the walk
+
+-- the names that were met are these
+abbrev pub AreMet : {A S : Type 0} → List (List ℕ) → HashSet (Vec ℕ A) S → Type 0
+AreMet names met = (q : List ℕ) → Contains names q ↔ (was_met met q ≡ true)
 
 -- a walk from this state on is one of the file, which draws these shapes and labels first
 abbrev pub Leads : List Item → List Rect → List FlatLabel → State → Type 0
@@ -150,7 +174,9 @@ pub record IsWalking (items : List Item) (w : Walker) (vs : List Level) : Type 0
   pub definitions : List Definition
   pub table : IsTable items definitions w.symbols
   pub calls : AreCalls items w.calls
-  pub leads : Leads items w.shapes w.labels (state_of items definitions w.count vs)
+  pub names : List (List ℕ)
+  pub met : AreMet names w.met
+  pub leads : Leads items w.shapes w.labels (state_of items definitions w.count names vs)
   pub limit : w.count ≤ walk_limit
   pub stack : EachLevel (IsLevel items w.count w.opened) vs
 
@@ -169,6 +195,25 @@ rest (v ∷ vs) = v.end - v.next
 -- how far the end of a walk is at most
 abbrev pub distance : ℕ → List Level → ℕ
 distance count vs = 2 * (walk_limit - count) + length vs + rest vs
+
+-- inside of a symbol, a label of the name was met; and not
+abbrev pub IsRepeated : Walker → List ℕ → Type 0
+IsRepeated w name = (0 < length w.levels.items) × (was_met w.met name ≡ true)
+
+abbrev pub IsFresh : Walker → List ℕ → Type 0
+IsFresh w name = (w.levels.items ≡ []) ⊎ (was_met w.met name ≡ false)
+
+-- The user command is this label, which isn't at top level only if none of its name was met, or it is a comment:
+-- whatever the definitions, the count and the names are.
+abbrev pub IsFound : List Item → Walker → Level → ℕ → ℕ → List ℕ → Option FlatLabel → Type 0
+IsFound items w v offset digit text (Some l) =
+    ((ds : List Definition) (count : ℕ) (names : List (List ℕ)) (c : Command)
+    → IsLabelAt (visit_of items ds count names w.levels.items v (item_at offset c)) digit text l)
+    × IsFresh w l.name
+IsFound items w v offset digit text None =
+    (ds : List Definition) (count : ℕ) (names : List (List ℕ)) (c : Command) (l : FlatLabel)
+    → IsLabelAt (visit_of items ds count names w.levels.items v (item_at offset c)) digit text l
+    → IsRepeated w l.name
 
 -- the walk has gone on from the level
 pub record IsAfter (items : List Item) (w : Walker) (v : Level) (new : Walker) : Type 0 where

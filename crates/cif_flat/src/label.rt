@@ -1,12 +1,13 @@
 //! Labels.
 
-ghost use Rattle.std.specs.Prelude.{◌≡◌, ◌≢◌, ◌<◌, ◌≤◌, ◌^◌, ℕ, List, ℤ, Option, All, length, take, drop, IfOk};
+ghost use Rattle.std.specs.Prelude.{◌≡◌, ◌≢◌, ◌<◌, ◌≤◌, ◌^◌, ℕ, List, ℤ, Option, All, length, take, drop, slice_range, IfOk};
 ghost use Rattle.std.specs.Prelude.{◌↔◌, IsTrue, IfSome, IfNone};
 ghost use Rattle.lam_geom.specs.declared.layer.Layer.{Layer};
 ghost use Rattle.cif_form.specs.declared.limits.TheConstants.{NUMBER_LIMIT};
 ghost use Rattle.cif_form.specs.Text.{Digits};
 ghost use Rattle.cif_form.specs.Place.{layer_name};
 ghost use Rattle.cif_form.specs.Labels.{IsSpace, Coordinate};
+ghost use Rattle.cif_form.specs.Names.{IsNameText};
 ghost use Rattle.cif_flat.specs.Labelling.{IsLabelled, Begins, IsNextWord, Tail, IsLabelLayer};
 
 use cif_form::NUMBER_LIMIT;
@@ -63,6 +64,21 @@ fn next_word(text: &[u8]) -> Option<(&[u8], &[u8])>
         return None;
     }
     Some((&rest[..size], &rest[size..]))
+}
+
+/// Where the name stands in the text of a user command that names a symbol.
+pub(crate) fn name_span(text: &[u8]) -> Option<(usize, usize)>
+    ensures some { IfSome result (λ p. IsNameText (slice_range text.now p.0 p.1) text.now) }
+    ensures none { IfNone result ((name : List ℕ) → ¬ IsNameText name text.now) }
+{
+    let Some((word, rest)) = next_word(text) else {
+        return None;
+    };
+    if space_count(rest) < rest.len() {
+        return None;
+    }
+    let end = text.len() - rest.len();
+    Some((end - word.len(), end))
 }
 
 /// The number that these digits write, if they are digits and it is below the limit.

@@ -3,14 +3,16 @@
 ghost use Rattle.std.specs.Prelude.{◌≡◌, ◌↔◌, ◌+◌, ◌<◌, IsTrue, Some};
 ghost use Rattle.cif_flat.specs.Walking.{top};
 
+use crate::symbol::Naming;
 use cif_place::{Placement, Ratio};
 use lam_geom::Layer;
 
-/// A list of commands that is being walked: the body of a symbol, or the top level, which has no symbol. Its commands
-/// from `next` on and before `end` are left.
+/// A list of commands that is being walked: the body of a symbol, or the top level, which has no symbol. `named` is where
+/// the name of the symbol stands, if it has one. Its commands from `next` on and before `end` are left.
 #[derive(Clone, Copy, Drop)]
 pub(crate) struct Level {
     pub symbol: Option<u64>,
+    pub named: Option<Naming>,
     pub ratio: Ratio,
     pub layer: Option<Layer>,
     pub placement: Placement,
@@ -25,6 +27,7 @@ impl Level {
     {
         Level {
             symbol: None,
+            named: None,
             ratio: Ratio::unit(),
             layer: None,
             placement: Placement::here(),
@@ -40,6 +43,7 @@ impl Level {
     {
         Level {
             symbol: self.symbol,
+            named: self.named,
             ratio: self.ratio,
             layer,
             placement: self.placement,
@@ -64,6 +68,7 @@ impl Level {
     {
         Level {
             symbol: self.symbol,
+            named: self.named,
             ratio: self.ratio,
             layer: self.layer,
             placement: self.placement,

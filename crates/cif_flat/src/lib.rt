@@ -11,5 +11,6 @@ mod level;
 mod symbol;
 mod table;
 mod walker;
+mod way;
 
 pub use flat::{Flat, flatten};

@@ -1,10 +1,11 @@
 //! The walk.
 
-ghost use Rattle.std.specs.Prelude.{◌≡◌, ◌≢◌, ◌+◌, ◌^◌, ◌<◌, ◌≤◌, ◌++◌, ◌∷◌, [], ℕ, All, true, false, pos, ◌≤ℤ◌};
-ghost use Rattle.std.specs.Prelude.{◌↔◌, length, map, slice_range, IsTrue, Some, IfOk, IfErr, OnOk};
+ghost use Rattle.std.specs.Prelude.{◌≡◌, ◌≢◌, ◌+◌, ◌*◌, ◌/◌, ◌^◌, ◌<◌, ◌≤◌, ◌++◌, ◌∷◌, [], ℕ, All, true, false, pos, ◌≤ℤ◌};
+ghost use Rattle.std.specs.Prelude.{◌↔◌, length, map, slice_range, IsTrue, Some, IfOk, IfErr};
+ghost use Rattle.std.specs.Prelude.{IfSome, IfNone, OnOk};
 ghost use Rattle.std.specs.BTreeMap.{get};
 ghost use Rattle.std.specs.Ordering.{nat_cmp};
-ghost use Rattle.cif_place.specs.Placing.{IsHeld};
+ghost use Rattle.cif_place.specs.Placing.{IsHeld, IsFitRatio};
 ghost use Rattle.cif_form.specs.Fits.{Fits};
 ghost use Rattle.cif_form.specs.Walk.{FileWalks, walk_limit};
 ghost use Rattle.cif_form.specs.Walk.WalkEnd.{Whole};
@@ -13,7 +14,8 @@ ghost use Rattle.cif_form.specs.declared.command.Command.TheVariants as commands
 ghost use Rattle.cif_list.specs.Turning.{wide_turn};
 ghost use Rattle.cif_flat.specs.Sound.{AreClosed};
 ghost use Rattle.cif_flat.specs.Walking.{EachLevel, IsNumbered, IsOpen, entered, IsBodySize, IsWalking, IsVisit};
-ghost use Rattle.cif_flat.specs.Walking.{IsAfter};
+ghost use Rattle.cif_flat.specs.Walking.{IsAfter, IsFound, IsRepeated, IsFresh};
+ghost use Rattle.std.specs.Bool.{OnTrue, OnFalse};
 ghost use Rattle.cif_flat.specs.Refusing.{RefusesWalk};
 
 use crate::called::{Composed, placement_of, turned_at};
@@ -22,26 +24,31 @@ use crate::flat::Flat;
 use crate::label::label_of;
 use crate::layer::layer_named;
 use crate::level::Level;
-use crate::symbol::Symbol;
+use crate::symbol::{Symbol, naming_of};
 use crate::table::{Table, cut, found, set};
+use crate::way::{Met, is_met, joined, meet, way_to};
 use cif_form::WALK_LIMIT;
 use cif_list::{Cif, CommandView, ShortTurn};
 use cif_place::laws::{placements_compose, rectangles_are_determined};
 use cif_place::{
-    BoxFault, Extent, Placement, Ratio, Wired, are_straight, box_edges, draw_wire, segment_count,
+    BoxFault, Extent, Placement, Ratio, Wired, are_straight, are_whole, box_edges, corner_at,
+    draw_polygon, draw_wire, placed_points, segment_count,
 };
 use lam_geom::{FlatLabel, Layer, Point, Rect};
 use mp_base::{List, Refusal};
+use poly_split::first_askew;
+use poly_split::laws::fillings_are_laid;
 use std::alloc::{AllocError, Global};
 
 /// A walk of the items of a file: the definitions that stand, by number; the depth where each number was opened last;
-/// the turns of calls that were composed, by the index of the call; the lists of commands that are being walked, the
-/// innermost last; and what was counted and drawn.
+/// the turns of calls that were composed, by the index of the call; the names of labels that were met; the lists of
+/// commands that are being walked, the innermost last; and what was counted and drawn.
 #[derive(Drop)]
 pub(crate) struct Walker {
     pub symbols: Table<Symbol>,
     pub opened: Table<usize>,
     pub calls: Table<Composed>,
+    pub met: Met,
     pub levels: Vec<Level>,
     pub count: u64,
     pub shapes: List<Rect>,
@@ -183,6 +190,42 @@ impl Walker {
         }
     }
 
+    fn draw_polygon(
+        &mut self,
+        alloc: Global,
+        items: &Cif,
+        level: Level,
+        offset: u64,
+        path: &[Point],
+    ) -> Result<(), Refusal>
+        requires { IsVisit items.now self.old level (item_at offset (commands.Polygon path.now)) }
+        ensures ok { OnOk result (IsAfter items.now self.old level self.new) }
+        ensures err { IfErr result (RefusesWalk items.now) }
+    {
+        fillings_are_laid();
+        if !are_whole(level.ratio, path) {
+            return Err(broken(Fault::F4, offset));
+        }
+        if path.len() < 4 {
+            return Err(broken(Fault::F6, offset));
+        }
+        if first_askew(path).is_some() {
+            return Err(broken(Fault::F6, offset));
+        }
+        let Some(weight) = polygon_weight(path.len(), WALK_LIMIT - self.count) else {
+            return Err(broken(Fault::F7, offset));
+        };
+        let Some(points) = placed_points(alloc, level.ratio, level.placement, path)? else {
+            return Err(broken(Fault::F8, offset));
+        };
+        let Some(layer) = level.layer else {
+            return Err(broken(Fault::F9, offset));
+        };
+        draw_polygon(alloc, &mut self.shapes, layer, &points)?;
+        self.go_on(level.onward(level.layer), weight)?;
+        Ok(())
+    }
+
     /// Whether a definition of a number is being expanded.
     fn is_open(&self, level: Level, number: u64) -> bool
         requires { EachLevel (IsNumbered self.now.opened) (self.now.levels.items ++ level ∷ []) }
@@ -210,7 +253,7 @@ impl Walker {
     ) -> Result<(), AllocError>
         requires count { self.old.count < walk_limit }
         requires more { level.next < level.end }
-        requires outer { IsHeld (2 ^ 126) level.placement }
+        requires outer { IsHeld (2 ^ 104 * 8_000_000) level.placement }
         requires inner { IsHeld (2 ^ 104) placement }
         ensures kept { OnOk result (self.new
             ≡ record self.old { opened = self.new.opened; count = self.old.count + 1; levels = self.new.levels }) }
@@ -226,6 +269,7 @@ impl Walker {
         self.levels.push(level.onward(level.layer))?;
         self.levels.push(Level {
             symbol: Some(number),
+            named: symbol.named,
             ratio: symbol.ratio,
             layer: None,
             placement: level.placement.after(placement),
@@ -281,12 +325,13 @@ impl Walker {
     {
         let first = level.next + 1;
         let end = first + body_size(items, first, level.end);
-        let ratio = Ratio::of(a, b);
-        set(
-            &mut self.symbols,
-            key_of(number),
-            Symbol { ratio, first, end },
-        )?;
+        let symbol = Symbol {
+            ratio: Ratio::of(a, b),
+            named: naming_of(items, first, end),
+            first,
+            end,
+        };
+        set(&mut self.symbols, key_of(number), symbol)?;
         self.go_on(level.resumed(end + 1), 0)?;
         Ok(())
     }
@@ -310,6 +355,56 @@ impl Walker {
         Ok(())
     }
 
+    /// Whether a label of a name is a comment here, since one was met before: not at top level.
+    fn is_repeated(&self, name: &[u8]) -> bool
+        ensures yes { OnTrue result (IsRepeated self.now name.now) }
+        ensures no { OnFalse result (IsFresh self.now name.now) }
+    {
+        if self.levels.len() > 0 {
+            return is_met(&self.met, name);
+        }
+        false
+    }
+
+    /// The label that a user command is, unless it is a comment.
+    fn label_at(
+        &self,
+        alloc: Global,
+        items: &Cif,
+        level: Level,
+        offset: u64,
+        digit: u8,
+        text: &[u8],
+    ) -> Result<Option<FlatLabel>, AllocError>
+        requires fit { IsFitRatio level.ratio }
+        requires held { IsHeld (2 ^ 104 * 8_000_000) level.placement }
+        ensures { IfOk result (IsFound items.now self.now level offset digit text.now) }
+    {
+        if digit != 9 {
+            return Ok(None);
+        }
+        let Some(way) = way_to(alloc, items, &self.levels, level)? else {
+            return Ok(None);
+        };
+        let Some(written) = label_of(alloc, offset, text)? else {
+            return Ok(None);
+        };
+        let Some(corner) = corner_at(level.ratio, level.placement, written.x, written.y) else {
+            return Ok(None);
+        };
+        let name = joined(way, written.name.bytes())?;
+        if self.is_repeated(name.bytes()) {
+            return Ok(None);
+        }
+        Ok(Some(FlatLabel {
+            offset,
+            name,
+            x: corner.x,
+            y: corner.y,
+            layer: written.layer,
+        }))
+    }
+
     fn user(
         &mut self,
         alloc: Global,
@@ -326,19 +421,10 @@ impl Walker {
         if self.count >= WALK_LIMIT {
             return Err(broken(Fault::F7, offset));
         }
-        if *digit != 9 {
-            self.go_on(level.onward(level.layer), 1)?;
-            return Ok(());
+        if let Some(label) = self.label_at(alloc, items, level, offset, *digit, text)? {
+            meet(alloc, &mut self.met, label.name.bytes())?;
+            self.labels.push(label)?;
         }
-        if self.levels.len() > 0 {
-            self.go_on(level.onward(level.layer), 1)?;
-            return Ok(());
-        }
-        let Some(label) = label_of(alloc, offset, text)? else {
-            self.go_on(level.onward(level.layer), 1)?;
-            return Ok(());
-        };
-        self.labels.push(label)?;
         self.go_on(level.onward(level.layer), 1)?;
         Ok(())
     }
@@ -354,7 +440,7 @@ impl Walker {
         let item = items.at(level.next);
         let offset = item.offset;
         match &item.command {
-            CommandView::Polygon(_) => Err(broken(Fault::F6, offset)),
+            CommandView::Polygon(path) => self.draw_polygon(alloc, items, level, offset, path),
             CommandView::Box {
                 length,
                 width,
@@ -395,6 +481,7 @@ impl Walker {
             symbols: Table::new(alloc),
             opened: Table::new(alloc),
             calls: Table::new(alloc),
+            met: Met::new(alloc),
             levels,
             count: 0,
             shapes: List::new(alloc),
@@ -442,6 +529,19 @@ fn body_size(items: &Cif, first: usize, end: usize) -> usize
         }
     }
     end - first
+}
+
+/// How many walked items a polygon of so many points is, if that many are left.
+fn polygon_weight(size: usize, left: u64) -> Option<u64>
+    ensures some { IfSome result (λ n. (n ≡ size * size / 4) × (n ≤ left)) }
+    ensures none { IfNone result (left < size * size / 4) }
+{
+    let size = size as u128;
+    let weight = size * size / 4;
+    if weight > u128::from(left) {
+        return None;
+    }
+    Some(weight as u64)
 }
 
 /// A number of a definition.

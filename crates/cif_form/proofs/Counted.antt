@@ -11,17 +11,19 @@ use Rattle.cif_form.specs.declared.command.Command.TheVariants.{Polygon, Box, Ro
 use Rattle.cif_form.specs.declared.command.Command.TheVariants.{Finish, Delete, Call, User, Comment}
 use Rattle.cif_form.specs.declared.command.Item.{Item}
 use Rattle.cif_form.specs.Place.{placed}
+use Rattle.cif_form.specs.Names.{IsSymbolName, way_into}
 use Rattle.cif_form.specs.Expansion.{Definition, Stands, item_at, IsInside}
 use Rattle.cif_form.specs.Walk.{Frame, State, Visit, Visits, BreaksBy, BreaksNone, Breaks, StepsBy, Walks, WalkEnd}
 use Rattle.cif_form.specs.Walk.{weight, walk_limit, start}
 use Rattle.cif_form.specs.Walk.DrawRule.{F7}
 use Rattle.cif_form.specs.Walk.WalkEnd.{Whole, Broken}
 use Rattle.cif_form.specs.Counts.{IsNoCall, Counts, CountsAtTop, WalkIsCounted, CountKeepsLimit}
-use Rattle.cif_form.proofs.OneExpansion.{one_definition, one_body}
+use Rattle.cif_form.proofs.OneName.{one_symbol_name}
+use Rattle.cif_form.proofs.OneWalk.{one_definition, one_body}
 
 -- the definition of a symbol
-abbrev made : ℤ → ℤ → ℤ → List Item → Definition
-made n a b body = record { number = n; scale = record { a = a; b = b }; body = body }
+abbrev made : ℤ → ℤ → ℤ → Option (List ℕ) → List Item → Definition
+made n a b name body = record { number = n; scale = record { a = a; b = b }; name = name; body = body }
 
 -- what these frames have left counts so many
 abbrev Left : List Definition → List Frame → ℕ → Type 0
@@ -52,34 +54,37 @@ call_less ds i is n m ts d e s (Counts.other h r) = absurd (subst IsNoCall e h)
 top_less : (ds : List Definition) (i : Item) (is : List Item) (n : ℕ) → IsInside i.command → CountsAtTop ds (i ∷ is) n
     → (a : ℕ) × (b : ℕ) × Counts ds (i ∷ []) a × CountsAtTop ds is b × (n ≡ a + b)
 top_less ds i is n ok (CountsAtTop.item {one = a} {rest = b} h one r) = (a, b, one, r, refl)
-top_less ds i is n ok (CountsAtTop.define m a b body after p e h s r) = absurd (subst IsInside e ok)
+top_less ds i is n ok (CountsAtTop.define m a b name body after p e h k s r) = absurd (subst IsInside e ok)
 top_less ds i is n ok (CountsAtTop.delete m e r) = absurd (subst IsInside e ok)
 
-start_less : (ds : List Definition) (i : Item) (after : List Item) (n : ℕ) (m a b : ℤ) (body is : List Item) (p : ℕ)
-    → i.command ≡ Start m a b
-    → All (λ (j : Item). IsInside j.command) body → after ≡ body ++ (item_at p Finish ∷ is)
+start_less : (ds : List Definition) (i : Item) (after : List Item) (n : ℕ) (m a b : ℤ) (name : Option (List ℕ))
+    (body is : List Item) (p : ℕ) → i.command ≡ Start m a b
+    → All (λ (j : Item). IsInside j.command) body → IsSymbolName body name → after ≡ body ++ (item_at p Finish ∷ is)
     → CountsAtTop ds (i ∷ after) n
-    → CountsAtTop (made m a b body ∷ ds) is n
-start_less ds i after n m a b body is p e ok s (CountsAtTop.item h one r) = absurd (subst IsInside e h)
-start_less ds i after n m a b body is p e ok s (CountsAtTop.define m2 a2 b2 body2 is2 p2 e2 ok2 s2 r) =
+    → CountsAtTop (made m a b name body ∷ ds) is n
+start_less ds i after n m a b name body is p e ok named s (CountsAtTop.item h one r) = absurd (subst IsInside e h)
+start_less ds i after n m a b name body is p e ok named s
+    (CountsAtTop.define m2 a2 b2 name2 body2 is2 p2 e2 ok2 named2 s2 r) =
     let same : Start m2 a2 b2 ≡ Start m a b = sym e2 ∙ e in
     let number : m2 ≡ m = cc in
     let top : a2 ≡ a = cc in
     let bottom : b2 ≡ b = cc in
     let parts = one_body body2 body is2 is p2 p ok2 ok (sym s2 ∙ s) in
-    subst (λ z. CountsAtTop (made m a b body ∷ ds) z n) parts.1
-    (subst (λ z. CountsAtTop (made m a b z ∷ ds) is2 n) parts.0
-    (subst (λ z. CountsAtTop (made m a z body2 ∷ ds) is2 n) bottom
-    (subst (λ z. CountsAtTop (made m z b2 body2 ∷ ds) is2 n) top
-    (subst (λ z. CountsAtTop (made z a2 b2 body2 ∷ ds) is2 n) number r))))
-start_less ds i after n m a b body is p e ok s (CountsAtTop.delete m2 e2 r) =
+    let called = one_symbol_name body name2 name (subst (λ z. IsSymbolName z name2) parts.0 named2) named in
+    subst (λ z. CountsAtTop (made m a b name body ∷ ds) z n) parts.1
+    (subst (λ z. CountsAtTop (made m a b name z ∷ ds) is2 n) parts.0
+    (subst (λ z. CountsAtTop (made m a b z body2 ∷ ds) is2 n) called
+    (subst (λ z. CountsAtTop (made m a z name2 body2 ∷ ds) is2 n) bottom
+    (subst (λ z. CountsAtTop (made m z b2 name2 body2 ∷ ds) is2 n) top
+    (subst (λ z. CountsAtTop (made z a2 b2 name2 body2 ∷ ds) is2 n) number r)))))
+start_less ds i after n m a b name body is p e ok named s (CountsAtTop.delete m2 e2 r) =
     absurd (let same : Delete m2 ≡ Start m a b = sym e2 ∙ e in cc)
 
 delete_less : (ds : List Definition) (i : Item) (is : List Item) (n : ℕ) (m : ℤ) → i.command ≡ Delete m
     → CountsAtTop ds (i ∷ is) n
     → (k : ℕ) × CountsAtTop (filter (λ (d : Definition). int_lt d.number m) ds) is k × (n ≡ 1 + k)
 delete_less ds i is n m e (CountsAtTop.item h one r) = absurd (subst IsInside e h)
-delete_less ds i is n m e (CountsAtTop.define m2 a b body after p e2 h s r) =
+delete_less ds i is n m e (CountsAtTop.define m2 a b name body after p e2 h k s r) =
     absurd (let same : Start m2 a b ≡ Delete m = sym e2 ∙ e in cc)
 delete_less ds i is n m e (CountsAtTop.delete {rest = k} m2 e2 r) =
     let same : Delete m2 ≡ Delete m = sym e2 ∙ e in
@@ -172,17 +177,24 @@ record Ties (v : Visit) (t : State) : Type 0 where
   grown : v.count + weight v.item.command ≡ t.count
 
 module _ (v : Visit) (was : v.frame.left ≡ v.item ∷ v.after) where
-  -- the state behind the command, with this frame in place of its own
-  abbrev moved : Frame → State
-  moved g = record { definitions = v.definitions; count = v.count + weight v.item.command; frames = g ∷ v.outer }
+  -- the state behind the command, with this frame in place of its own, and these names
+  abbrev moved : Frame → List (List ℕ) → State
+  moved g names =
+      record {
+        definitions = v.definitions;
+        count = v.count + weight v.item.command;
+        names = names;
+        frames = g ∷
+            v.outer;
+      }
 
   abbrev size : ℕ
   size = weight v.item.command
 
   -- a command that stays in its frame, with whatever layer
   plain_ties : IsNoCall v.item.command → IsInside v.item.command → (g : Frame) → g.left ≡ v.after
-      → (t : State) → t ≡ moved g → Ties v t
-  plain_ties plain ok g is t e = subst (Ties v) (sym e) (record {
+      → (names : List (List ℕ)) (t : State) → t ≡ moved g names → Ties v t
+  plain_ties plain ok g is names t e = subst (Ties v) (sym e) (record {
     back =
         λ k o. (size + k, plain_back v.definitions v.frame g v.item v.after was is v.outer plain ok k o, omega arith);
     on = λ n o. (let w = plain_on v.definitions v.frame g v.item v.after was is v.outer plain ok n o in
@@ -191,10 +203,10 @@ module _ (v : Visit) (was : v.frame.left ≡ v.item ∷ v.after) where
   })
 
   -- a shape, a label or a comment
-  stays : IsNoCall v.item.command → IsInside v.item.command → (l : Option Layer) (t : State)
-      → (let g : Frame = record v.frame { layer = l; left = v.after } in t ≡ moved g) → Ties v t
-  stays plain ok l t e =
-      (let g : Frame = record v.frame { layer = l; left = v.after } in plain_ties plain ok g refl t e)
+  stays : IsNoCall v.item.command → IsInside v.item.command → (l : Option Layer) (names : List (List ℕ)) (t : State)
+      → (let g : Frame = record v.frame { layer = l; left = v.after } in t ≡ moved g names) → Ties v t
+  stays plain ok l names t e =
+      (let g : Frame = record v.frame { layer = l; left = v.after } in plain_ties plain ok g refl names t e)
 
   top_only : (outer : List Frame) → outer ≡ [] → (n : ℕ) → Left v.definitions (v.frame ∷ outer) n
       → CountsAtTop v.definitions (v.item ∷ v.after) n
@@ -209,19 +221,24 @@ module _ (v : Visit) (was : v.frame.left ≡ v.item ∷ v.after) where
   ties : (c : Command) → v.item.command ≡ c → (rs : List Rect) (ls : List FlatLabel) (t : State) → StepsBy v c rs ls t
       → Ties v t
   ties (Box a b c d) e rs ls t (h, hl) =
-      stays (subst IsNoCall (sym e) tt) (subst IsInside (sym e) tt) v.frame.layer t h.5
+      stays (subst IsNoCall (sym e) tt) (subst IsInside (sym e) tt) v.frame.layer v.names t h.5
   ties (Wire w ps) e rs ls t (h, hl) =
-      stays (subst IsNoCall (sym e) tt) (subst IsInside (sym e) tt) v.frame.layer t h.5
+      stays (subst IsNoCall (sym e) tt) (subst IsInside (sym e) tt) v.frame.layer v.names t h.5
+  ties (Polygon ps) e rs ls t (h, hl) =
+      stays (subst IsNoCall (sym e) tt) (subst IsInside (sym e) tt) v.frame.layer v.names t h.5
   ties (SetLayer name) e rs ls t (l, hl, hr, hs, ht) =
-      stays (subst IsNoCall (sym e) tt) (subst IsInside (sym e) tt) (Some l) t ht
-  ties (User digit text) e rs ls t (h, hr, ht) =
-      stays (subst IsNoCall (sym e) tt) (subst IsInside (sym e) tt) v.frame.layer t ht
+      stays (subst IsNoCall (sym e) tt) (subst IsInside (sym e) tt) (Some l) v.names t ht
+  ties (User digit text) e rs ls t (inl (l, at, new, hl, ht), hr) =
+      stays (subst IsNoCall (sym e) tt) (subst IsInside (sym e) tt) v.frame.layer (l.name ∷ v.names) t ht
+  ties (User digit text) e rs ls t (inr (none, hl, ht), hr) =
+      stays (subst IsNoCall (sym e) tt) (subst IsInside (sym e) tt) v.frame.layer v.names t ht
   ties (Comment text) e rs ls t (hr, hs, ht) =
-      stays (subst IsNoCall (sym e) tt) (subst IsInside (sym e) tt) v.frame.layer t ht
+      stays (subst IsNoCall (sym e) tt) (subst IsInside (sym e) tt) v.frame.layer v.names t ht
   ties (Call m ts) e rs ls t (d, ms, stands, motions, hr, hs, ht) =
       let g : Frame = record v.frame { left = v.after } in
       let h : Frame = record {
         symbol = Some d.number;
+        way = way_into v.frame.way d.name;
         scale = d.scale;
         layer = None;
         place = λ r. v.frame.place (placed ms r);
@@ -238,13 +255,18 @@ module _ (v : Visit) (was : v.frame.left ≡ v.item ∷ v.after) where
             (w.0, w.1, omega (arith, w.2)));
         grown = ap (λ c. v.count + weight c) e;
       })
-  ties (Start m a b) e rs ls t (body, is, p, outer, ok, s, hr, hs, ht) =
+  ties (Start m a b) e rs ls t (name, body, is, p, outer, ok, named, s, hr, hs, ht) =
       let none : weight v.item.command ≡ 0 = ap weight e in
       subst (Ties v) (sym ht) (record {
-        back = λ k o. (k, top_back v.outer outer k (CountsAtTop.define m a b body is p e ok s o), omega (arith, none));
+        back = λ k o. (
+          k,
+          top_back v.outer outer k (CountsAtTop.define m a b name body is p e ok named s o),
+          omega
+              (arith, none),
+        );
         on =
             λ n o. (let at_top = top_only v.outer outer n o in
-            let w = start_less v.definitions v.item v.after n m a b body is p e ok s at_top in
+            let w = start_less v.definitions v.item v.after n m a b name body is p e ok named s at_top in
             (n, w, omega (arith, none)));
         grown = refl;
       })
@@ -256,7 +278,6 @@ module _ (v : Visit) (was : v.frame.left ≡ v.item ∷ v.after) where
             (w.0, w.1, omega (arith, one, w.2)));
         grown = refl;
       })
-  ties (Polygon ps) e rs ls t h = absurd h
   ties (Round a b) e rs ls t h = absurd h
   ties Finish e rs ls t h = absurd h
 
@@ -303,7 +324,7 @@ weight_counts ds i is n (Counts.other h r) = omega arith
 weight_at_top : (ds : List Definition) (i : Item) (is : List Item) (n : ℕ) → CountsAtTop ds (i ∷ is) n
     → weight i.command ≤ n
 weight_at_top ds i is n (CountsAtTop.item {one = a} h one r) = let w = weight_counts ds i [] a one in omega (arith, w)
-weight_at_top ds i is n (CountsAtTop.define m a b body after p e h s r) =
+weight_at_top ds i is n (CountsAtTop.define m a b name body after p e h k s r) =
     let none : weight i.command ≡ 0 = ap weight e in omega (arith, none)
 weight_at_top ds i is n (CountsAtTop.delete m e r) = let one : weight i.command ≡ 1 = ap weight e in omega (arith, one)
 

@@ -8,8 +8,11 @@ pub mod Turning
 pub mod Scaled
 pub mod OneLabel
 pub mod OnePlace
-pub mod OneExpansion
+pub mod OneName
+pub mod Filling
+pub mod Likeness
 pub mod OneWalk
+pub mod OneExpansion
 pub mod WalkDraws
 pub mod Scanning
 pub mod Fitting

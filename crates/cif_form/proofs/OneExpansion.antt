@@ -1,93 +1,118 @@
--- What commands draw is determined.
-use Rattle.std.proofs.Common.{ℕ, ◌≡◌, refl, sym, ◌∙◌, ap, subst, List, [], ◌∷◌, ◌++◌, Option, Some, None, map, All}
-use Rattle.mp_base.proofs.Lists.{head_of, tail_of}
-use Rattle.std.specs.Prelude.{ℤ, filter, int_lt}
-use Rattle.std.proofs.lemmas.List.Elements.{All-head, All-tail}
+-- What commands draw is determined, up to how polygons are filled, and without polygons wholly.
+use Rattle.std.proofs.Common.{ℕ, ◌≡◌, refl, sym, ◌∙◌, subst, List, [], ◌∷◌, Option, Some, None, map}
+use Rattle.std.specs.Prelude.{filter, int_lt}
+use Rattle.std.proofs.lemmas.List.Elements.{All-head, All-tail, All-cons, All-nil, All-filter}
 use Rattle.lam_geom.specs.declared.layer.Layer.{Layer}
 use Rattle.lam_geom.specs.declared.rect.Rect.{Rect}
-use Rattle.lam_geom.specs.declared.label.FlatLabel.{FlatLabel}
-use Rattle.cif_form.specs.declared.command.Command.TheVariants.{Finish}
+use Rattle.cif_form.specs.declared.command.Command.TheVariants.{Finish, Start, Delete, Call, User, Comment}
+use Rattle.cif_form.specs.declared.command.Command.TheVariants.{Layer as SetLayer}
+use Rattle.cif_form.specs.declared.command.Command.{Command}
 use Rattle.cif_form.specs.declared.command.Item.{Item}
 use Rattle.cif_form.specs.Place.{Scale, unit, placed}
-use Rattle.cif_form.specs.Expansion.{Definition, Stands, item_at, Draws, IsInside, Expands}
-use Rattle.cif_form.proofs.OneLabel.{one_layer, one_label}
-use Rattle.cif_form.proofs.OnePlace.{one_edges, one_motions}
+use Rattle.cif_form.specs.Expansion.{item_at, Definition, Draws, Expands}
+use Rattle.cif_form.specs.Names.{IsSymbolName}
+use Rattle.cif_form.specs.Laws.{IsNoPolygon, ExpansionIsUnique, PlainExpansionIsUnique}
+use Rattle.cif_form.proofs.OneLabel.{one_layer}
+use Rattle.cif_form.proofs.OnePlace.{one_motions}
+use Rattle.cif_form.proofs.OneName.{one_symbol_name}
+use Rattle.cif_form.proofs.OneWalk.{one_definition, one_body}
+use Rattle.cif_form.proofs.Filling.{Same}
+use Rattle.cif_form.proofs.Likeness.{IsLikeness, AnyCommand, squares, rectangles, Each, each_any, EachBody, standing}
+use Rattle.cif_form.proofs.Likeness.{split_each}
 
-pub one_definition : (ds : List Definition) (n : ℤ) (d e : Definition) → Stands ds n d → Stands ds n e → d ≡ e
-one_definition _ _ _ _ (Stands.newest h) (Stands.newest k) = refl
-one_definition _ _ _ _ (Stands.newest h) (Stands.older k i) = absurd (k h)
-one_definition _ _ _ _ (Stands.older k i) (Stands.newest h) = absurd (k h)
-one_definition _ _ _ _ (Stands.older h k) (Stands.older a b) = one_definition _ _ _ _ k b
+module _ (Of : Command → Type 0) (Like : List Rect → List Rect → Type 0) (alike : IsLikeness Of Like) where
+  -- this is true of the first command, and of the others
+  head_each : (i : Item) (is : List Item) → Each Of (i ∷ is) → Of i.command
+  head_each i is h = All-head (λ i. Of i.command) i is h
 
--- the body of a definition ends at the first finish
-pub one_body : (body more is js : List Item) (o p : ℕ) → All (λ i. IsInside i.command) body
-    → All (λ i. IsInside i.command) more
-    → body ++ (item_at o Finish ∷ is) ≡ more ++ (item_at p Finish ∷ js) → (body ≡ more) × (is ≡ js)
-one_body [] [] is js o p h k e = (refl, tail_of e)
-one_body [] (m ∷ more) is js o p h k e =
-    absurd (subst IsInside (sym (ap (λ i. i.command) (head_of e))) (All-head (λ i. IsInside i.command) m more k))
-one_body (b ∷ body) [] is js o p h k e =
-    absurd (subst IsInside (ap (λ i. i.command) (head_of e)) (All-head (λ i. IsInside i.command) b body h))
-one_body (b ∷ body) (m ∷ more) is js o p h k e =
-    let r = one_body body more is js o p (All-tail (λ i. IsInside i.command) b body h)
-    (All-tail (λ i. IsInside i.command) m more k) (tail_of e) in
-    ((λ i. head_of e i ∷ r.0 i), r.1)
+  tail_each : (i : Item) (is : List Item) → Each Of (i ∷ is) → Each Of is
+  tail_each i is h = All-tail (λ i. Of i.command) i is h
 
-pub one_draws : (ds : List Definition) (s : Scale) (l : Option Layer) (is : List Item) (rs qs : List Rect)
-    → Draws ds s l is rs → Draws ds s l is qs → rs ≡ qs
-one_draws ds _ _ _ _ _ Draws.done Draws.done = refl
-one_draws ds _ _ _ _ _ (Draws.layer {s = s} {is = is} {rs = rs} m name h d) (Draws.layer {rs = qs} n other k e) =
-    one_draws ds s (Some m) is rs qs d (subst (λ x. Draws ds s (Some x) is qs) (one_layer name n m k h) e)
-one_draws ds _ _ _ _ _ (Draws.shape {s = s} {l = l} {is = is} {rs = rs} c us h d) (Draws.shape {rs = qs} b vs k e) =
-    λ i. one_edges s l c us vs h k i ++ one_draws ds s (Some l) is rs qs d e i
-one_draws ds _ _ _ _ _ (Draws.call {s = s} {l = l} {is = is} {rs = rs} n ts f ms us a b g x d)
-    (Draws.call {rs = qs} m us' f' ms' vs a' b' g' x' e) =
-    let t : f' ≡ f = one_definition ds n f' f a' a in
-    let u = one_draws ds f.scale None f.body us vs x (subst (λ w. Draws ds w.scale None w.body vs) t x') in
-    λ i. map (placed (one_motions s ts ms ms' g g' i)) (u i) ++ one_draws ds s l is rs qs d e i
-one_draws ds _ _ _ _ _ (Draws.user {s = s} {l = l} {is = is} {rs = rs} digit text d)
-    (Draws.user {rs = qs} digit' text' e) = one_draws ds s l is rs qs d e
-one_draws ds _ _ _ _ _ (Draws.comment {s = s} {l = l} {is = is} {rs = rs} text d) (Draws.comment {rs = qs} text' e) =
-    one_draws ds s l is rs qs d e
-one_draws ds _ _ _ _ _ (Draws.shape c rs h d) (Draws.layer n other k e) = absurd h
-one_draws ds _ _ _ _ _ (Draws.shape c rs h d) (Draws.call n ts f ms inner a b g x e) = absurd h
-one_draws ds _ _ _ _ _ (Draws.shape c rs h d) (Draws.user digit text e) = absurd h
-one_draws ds _ _ _ _ _ (Draws.shape c rs h d) (Draws.comment text e) = absurd h
-one_draws ds _ _ _ _ _ (Draws.layer m name h d) (Draws.shape b qs k e) = absurd k
-one_draws ds _ _ _ _ _ (Draws.call n ts f ms inner a b g x d) (Draws.shape c qs k e) = absurd k
-one_draws ds _ _ _ _ _ (Draws.user digit text d) (Draws.shape c qs k e) = absurd k
-one_draws ds _ _ _ _ _ (Draws.comment text d) (Draws.shape c qs k e) = absurd k
+  one_draws : (ds : List Definition) (s : Scale) (l : Option Layer) (is : List Item) (rs qs : List Rect)
+      → EachBody Of ds
+      → Each Of is → Draws ds s l is rs → Draws ds s l is qs → Like rs qs
+  one_draws ds _ _ _ _ _ b c Draws.done Draws.done = alike.itself []
+  one_draws ds _ _ _ _ _ b c (Draws.layer {s = s} {o = o} {is = is} {rs = rs} m name h d)
+      (Draws.layer {rs = qs} n other k e) =
+      one_draws ds s (Some m) is rs qs b (tail_each (item_at o (SetLayer name)) is c) d
+      (subst (λ x. Draws ds s (Some x) is qs) (one_layer name n m k h) e)
+  one_draws ds _ _ _ _ _ b c (Draws.shape {s = s} {l = l} {o = o} {is = is} {rs = rs} shape us h d)
+      (Draws.shape {rs = qs} other vs k e) =
+      alike.append us vs rs qs (alike.edges s l shape us vs (head_each (item_at o shape) is c) h k)
+      (one_draws ds s (Some l) is rs qs b (tail_each (item_at o shape) is c) d e)
+  one_draws ds _ _ _ _ _ b c (Draws.call {s = s} {l = l} {o = o} {is = is} {rs = rs} n ts f ms us a i g x d)
+      (Draws.call {rs = qs} m us' f' ms' vs a' i' g' x' e) =
+      let t : f' ≡ f = one_definition ds n f' f a' a in
+      let u = one_draws ds f.scale None f.body us vs b (standing Of ds n f b a) x
+      (subst (λ w. Draws ds w.scale None w.body vs) t x') in
+      let w = alike.at (placed ms) (ms, λ r. refl) us vs u in
+      let one = subst (λ z. Like (map (placed ms) us) (map (placed z) vs)) (one_motions s ts ms ms' g g') w in
+      alike.append (map (placed ms) us) (map (placed ms') vs) rs qs one
+      (one_draws ds s l is rs qs b (tail_each (item_at o (Call n ts)) is c) d e)
+  one_draws ds _ _ _ _ _ b c (Draws.user {s = s} {l = l} {o = o} {is = is} {rs = rs} digit text d)
+      (Draws.user {rs = qs} digit' text' e) =
+      one_draws ds s l is rs qs b (tail_each (item_at o (User digit text)) is c) d e
+  one_draws ds _ _ _ _ _ b c (Draws.comment {s = s} {l = l} {o = o} {is = is} {rs = rs} text d)
+      (Draws.comment {rs = qs} text' e) =
+      one_draws ds s l is rs qs b (tail_each (item_at o (Comment text)) is c) d e
+  one_draws ds _ _ _ _ _ b c (Draws.shape shape rs h d) (Draws.layer n other k e) = absurd h
+  one_draws ds _ _ _ _ _ b c (Draws.shape shape rs h d) (Draws.call n ts f ms inner a i g x e) = absurd h
+  one_draws ds _ _ _ _ _ b c (Draws.shape shape rs h d) (Draws.user digit text e) = absurd h
+  one_draws ds _ _ _ _ _ b c (Draws.shape shape rs h d) (Draws.comment text e) = absurd h
+  one_draws ds _ _ _ _ _ b c (Draws.layer m name h d) (Draws.shape shape qs k e) = absurd k
+  one_draws ds _ _ _ _ _ b c (Draws.call n ts f ms inner a i g x d) (Draws.shape shape qs k e) = absurd k
+  one_draws ds _ _ _ _ _ b c (Draws.user digit text d) (Draws.shape shape qs k e) = absurd k
+  one_draws ds _ _ _ _ _ b c (Draws.comment text d) (Draws.shape shape qs k e) = absurd k
 
--- What a file draws, and its labels, are determined.
-pub one_expansion : (ds : List Definition) (l : Option Layer) (is : List Item) (rs qs : List Rect)
-    (ls ms : List FlatLabel)
-    → Expands ds l is rs ls → Expands ds l is qs ms → (rs ≡ qs) × (ls ≡ ms)
-one_expansion _ _ _ _ _ _ _ Expands.done Expands.done = (refl, refl)
-one_expansion _ _ _ _ _ _ _ (Expands.layer {ds = ds} {is = is} {rs = rs} {ls = ls} m name h x)
-    (Expands.layer {rs = qs} {ls = ms} n other k y) =
-    one_expansion ds (Some m) is rs qs ls ms x (subst (λ a. Expands ds (Some a) is qs ms) (one_layer name n m k h) y)
-one_expansion _ _ _ _ _ _ _ (Expands.layer m name h x) (Expands.draw c qs k d y) = absurd k
-one_expansion _ _ _ _ _ _ _ (Expands.draw c qs k d y) (Expands.layer m name h x) = absurd k
-one_expansion _ _ _ _ _ _ _ (Expands.draw {ds = ds} {l = l} {o = o} {is = is} {rs = rs} {ls = ls} c us h d x)
-    (Expands.draw {rs = qs} {ls = ms} b vs k e y) =
-    let r = one_expansion ds l is rs qs ls ms x y in
-    ((λ i. one_draws ds unit l (item_at o c ∷ []) us vs d e i ++ r.0 i), r.1)
-one_expansion _ _ _ _ _ _ _ (Expands.draw c us h d x) (Expands.label text m e k y) = absurd (h refl m k)
-one_expansion _ _ _ _ _ _ _ (Expands.draw c us h d x) (Expands.define n a b body js p i e y) = absurd h
-one_expansion _ _ _ _ _ _ _ (Expands.draw c us h d x) (Expands.delete n y) = absurd h
-one_expansion _ _ _ _ _ _ _ (Expands.label text m e k y) (Expands.draw c us h d x) = absurd (h refl m k)
-one_expansion _ _ _ _ _ _ _ (Expands.label {ds = ds} {l = l} {is = is} {rs = rs} {ls = ls} text a e h x)
-    (Expands.label {rs = qs} {ls = ms} other b f k y) =
-    let r = one_expansion ds l is rs qs ls ms x y in
-    (r.0, λ i. one_label a b text (e ∙ sym f) h k i ∷ r.1 i)
-one_expansion _ _ _ _ _ _ _ (Expands.define n a b body js p i e y) (Expands.draw c us h d x) = absurd h
-one_expansion _ _ _ _ _ _ _ (Expands.define {ds = ds} {l = l} {rs = rs} {ls = ls} n a b body is p h e x)
-    (Expands.define {rs = qs} {ls = ms} n' a' b' more js q k f y) =
-    let t = one_body more body js is q p k h (sym f ∙ e) in
-    one_expansion (record { number = n; scale = record { a = a; b = b }; body = body } ∷ ds) l is rs qs ls ms x
-    (subst (λ i. Expands (record { number = n; scale = record { a = a; b = b }; body = body } ∷ ds) l i qs ms) t.1
-    (subst (λ w. Expands (record { number = n; scale = record { a = a; b = b }; body = w } ∷ ds) l js qs ms) t.0 y))
-one_expansion _ _ _ _ _ _ _ (Expands.delete n y) (Expands.draw c us h d x) = absurd h
-one_expansion _ _ _ _ _ _ _ (Expands.delete {ds = ds} {l = l} {is = is} {rs = rs} {ls = ls} n x)
-    (Expands.delete {rs = qs} {ls = ms} m y) =
-    one_expansion (filter (λ d. int_lt d.number n) ds) l is rs qs ls ms x y
+  -- What a file draws is determined up to the likeness.
+  one_expansion : (ds : List Definition) (l : Option Layer) (is : List Item) (rs qs : List Rect) → EachBody Of ds
+      → Each Of is → Expands ds l is rs → Expands ds l is qs → Like rs qs
+  one_expansion _ _ _ _ _ b c Expands.done Expands.done = alike.itself []
+  one_expansion _ _ _ _ _ b c (Expands.layer {ds = ds} {o = o} {is = is} {rs = rs} m name h x)
+      (Expands.layer {rs = qs} n other k y) =
+      one_expansion ds (Some m) is rs qs b (tail_each (item_at o (SetLayer name)) is c) x
+      (subst (λ a. Expands ds (Some a) is qs) (one_layer name n m k h) y)
+  one_expansion _ _ _ _ _ b c (Expands.layer m name h x) (Expands.draw shape qs k d y) = absurd k
+  one_expansion _ _ _ _ _ b c (Expands.draw shape qs k d y) (Expands.layer m name h x) = absurd k
+  one_expansion _ _ _ _ _ b c (Expands.draw {ds = ds} {l = l} {o = o} {is = is} {rs = rs} shape us h d x)
+      (Expands.draw {rs = qs} other vs k e y) =
+      let here = All-cons (λ i. Of i.command) (item_at o shape) [] (head_each (item_at o shape) is c)
+      (All-nil (λ i. Of i.command)) in
+      alike.append us vs rs qs (one_draws ds unit l (item_at o shape ∷ []) us vs b here d e)
+      (one_expansion ds l is rs qs b (tail_each (item_at o shape) is c) x y)
+  one_expansion _ _ _ _ _ b c (Expands.draw shape us h d x) (Expands.define n a z name body js p i j e y) = absurd h
+  one_expansion _ _ _ _ _ b c (Expands.draw shape us h d x) (Expands.delete n y) = absurd h
+  one_expansion _ _ _ _ _ b c (Expands.define n a z name body js p i j e y) (Expands.draw shape us h d x) = absurd h
+  one_expansion _ _ _ _ _ b c
+      (Expands.define {ds = ds} {l = l} {o = o} {rest = rest} {rs = rs} n a z name body is p h j e x)
+      (Expands.define {rs = qs} n' a' z' name' more js q k g f y) =
+      let t = one_body more body js is q p k h (sym f ∙ e) in
+      let u = one_symbol_name body name' name (subst (λ w. IsSymbolName w name') t.0 g) j in
+      let made : Option (List ℕ) → List Item → Definition = λ name body. record {
+        number = n;
+        scale = record { a = a; b = z };
+        name = name;
+        body = body;
+      } in
+      let after = subst (Each Of) e (tail_each (item_at o (Start n a z)) rest c) in
+      let parts = split_each Of body (item_at p Finish ∷ is) after in
+      let bodies = All-cons (λ (d : Definition). Each Of d.body) (made name body) ds parts.0 b in
+      one_expansion (made name body ∷ ds) l is rs qs bodies (tail_each (item_at p Finish) is parts.1) x
+      (subst (λ i. Expands (made name body ∷ ds) l i qs) t.1
+      (subst (λ w. Expands (made name w ∷ ds) l js qs) t.0 (subst (λ w. Expands (made w more ∷ ds) l js qs) u y)))
+  one_expansion _ _ _ _ _ b c (Expands.delete n y) (Expands.draw shape us h d x) = absurd h
+  one_expansion _ _ _ _ _ b c (Expands.delete {ds = ds} {l = l} {o = o} {is = is} {rs = rs} n x)
+      (Expands.delete {rs = qs} m y) =
+      one_expansion (filter (λ d. int_lt d.number n) ds) l is rs qs
+      (All-filter (λ (d : Definition). int_lt d.number n) (λ d. Each Of d.body) ds b)
+      (tail_each (item_at o (Delete n)) is c) x y
+
+pub expansion_is_unique : ExpansionIsUnique
+expansion_is_unique items rs qs x y =
+    one_expansion AnyCommand Same squares [] None items rs qs (All-nil (λ d. Each AnyCommand d.body))
+    (each_any items) x y
+
+pub plain_expansion_is_unique : PlainExpansionIsUnique
+plain_expansion_is_unique items rs qs plain x y =
+    one_expansion IsNoPolygon (λ rs qs. rs ≡ qs) rectangles [] None items rs qs
+    (All-nil (λ d. Each IsNoPolygon d.body)) plain x y

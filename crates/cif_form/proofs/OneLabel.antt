@@ -187,7 +187,7 @@ one_tail (Some l) (Some m) text (own, end, e, (s, name, f, h, (g, n)), k)
     ap (λ x. Some x) (one_layer name l m g (d.0 ∙ g'))
 
 -- spaces, then a word and what follows it
-one_spaced : (s s' w w' r r' : List ℕ) → Spaces s → Spaces s' → (0 < length w) × All Word w
+pub one_spaced : (s s' w w' r r' : List ℕ) → Spaces s → Spaces s' → (0 < length w) × All Word w
     → (0 < length w') × All Word w' → Heads (λ b. ¬ Word b) r → Heads (λ b. ¬ Word b) r'
     → s ++ (w ++ r) ≡ s' ++ (w' ++ r') → (w ≡ w') × (r ≡ r')
 one_spaced s s' w w' r r' h h' k k' m m' e =

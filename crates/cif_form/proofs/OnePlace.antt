@@ -8,10 +8,7 @@ use Rattle.lam_geom.specs.declared.place.Point.{Point}
 use Rattle.lam_geom.specs.declared.rect.Rect.{Rect}
 use Rattle.cif_form.specs.declared.command.Turn.{Turn}
 use Rattle.cif_form.specs.declared.command.Turn.TheVariants.{Move, MirrorX, MirrorY, Rotate}
-use Rattle.cif_form.specs.declared.command.Command.{Command}
-use Rattle.cif_form.specs.declared.command.Command.TheVariants.{Polygon, Box, Round, Wire, Layer as SetLayer, Start}
-use Rattle.cif_form.specs.declared.command.Command.TheVariants.{Finish, Delete, Call, User, Comment}
-use Rattle.cif_form.specs.Place.{Scale, IsScaled, IsBox, IsAround, IsSegment, AreSegments, segments, HasEdges, Motion}
+use Rattle.cif_form.specs.Place.{Scale, IsScaled, IsBox, IsAround, IsSegment, AreSegments, Motion}
 use Rattle.cif_form.specs.Place.{AreMotions, IsMotion}
 use Rattle.cif_form.specs.Place.Motion.{Shift}
 
@@ -80,20 +77,6 @@ one_wire s l w [] (r ∷ rs) qs h k = absurd h
 one_wire s l w [] [] (q ∷ qs) h k = absurd k
 one_wire s l w (p ∷ ps) [] qs h k = absurd h
 one_wire s l w (p ∷ ps) (r ∷ rs) [] h k = absurd k
-
-pub one_edges : (s : Scale) (l : Layer) (c : Command) (rs qs : List Rect) → HasEdges s l c rs → HasEdges s l c qs
-    → rs ≡ qs
-one_edges s l (Box a b c d) rs qs (r, e, h) (q, f, k) = e ∙ (λ i. one_box s l a b c d r q h k i ∷ []) ∙ sym f
-one_edges s l (Wire w ps) rs qs h k = one_wire s l w (segments ps) rs qs h k
-one_edges s l (Polygon ps) rs qs h k = absurd h
-one_edges s l (Round a b) rs qs h k = absurd h
-one_edges s l (SetLayer name) rs qs h k = absurd h
-one_edges s l (Start n a b) rs qs h k = absurd h
-one_edges s l Finish rs qs h k = absurd h
-one_edges s l (Delete n) rs qs h k = absurd h
-one_edges s l (Call n ts) rs qs h k = absurd h
-one_edges s l (User d t) rs qs h k = absurd h
-one_edges s l (Comment t) rs qs h k = absurd h
 
 -- ---- motions
 

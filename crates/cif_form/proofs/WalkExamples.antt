@@ -11,6 +11,7 @@ use Rattle.cif_form.specs.declared.command.Command.TheVariants.{Start, Finish, C
 use Rattle.cif_form.specs.declared.command.Item.{Item}
 use Rattle.cif_form.specs.Text.{right}
 use Rattle.cif_form.specs.Place.{unit, IsScale, layer_name}
+use Rattle.cif_form.specs.Names.{IsSymbolName}
 use Rattle.cif_form.specs.Expansion.{Definition, Stands, item_at, IsInside}
 use Rattle.cif_form.specs.Walk.{Frame, Visit, DrawRule, draw_rule_number, BreaksBy, Breaks, BreaksNone, FileWalks}
 use Rattle.cif_form.specs.Walk.{Walks, top_frame}
@@ -43,10 +44,10 @@ own_file = item_at 0 (Start (pos 1) (pos 1) (pos 1)) ∷ item_at 6 (Call (pos 1)
     ∷ item_at 15 (Call (pos 1) []) ∷ []
 
 abbrev one : Definition
-one = record { number = pos 1; scale = unit; body = own_body }
+one = record { number = pos 1; scale = unit; name = None; body = own_body }
 
 abbrev inner : List Item → Frame
-inner is = record { symbol = Some (pos 1); scale = unit; layer = None; place = λ r. r; left = is }
+inner is = record { symbol = Some (pos 1); way = None; scale = unit; layer = None; place = λ r. r; left = is }
 
 no_call_rule : (v : Visit) → v.item.command ≡ Call (pos 1) [] → Stands v.definitions (pos 1) one
     → ((d : Definition) → Stands v.definitions (pos 1) d → d ≡ one)
@@ -72,6 +73,7 @@ own_start =
     record {
       definitions = [];
       count = 0;
+      names = [];
       frame = top_frame own_file;
       outer = [];
       item = item_at 0 (Start (pos 1) (pos 1) (pos 1));
@@ -83,6 +85,7 @@ own_call =
     record {
       definitions = one ∷ [];
       count = 0;
+      names = [];
       frame = top_frame (item_at 15 (Call (pos 1) []) ∷ []);
       outer = [];
       item = item_at 15 (Call (pos 1) []);
@@ -94,6 +97,7 @@ own_last =
     record {
       definitions = one ∷ [];
       count = 1;
+      names = [];
       frame = inner own_body;
       outer = top_frame [] ∷ [];
       item = item_at 6 (Call (pos 1) []);
@@ -106,20 +110,29 @@ call_of_itself =
     (record {
       definitions = [];
       count = 0;
+      names = [];
       frame = top_frame own_file;
       outer = [];
       item = item_at 0 (Start (pos 1) (pos 1) (pos 1));
       after = item_at 6 (Call (pos 1) []) ∷ item_at 11 Finish ∷ item_at 15 (Call (pos 1) []) ∷ [];
-    }) [] [] (record { definitions = one ∷ []; count = 0; frames = top_frame (item_at 15 (Call (pos 1) []) ∷ []) ∷ [] })
-    (record { definitions = refl; count = refl; frames = refl; left = refl })
+    }) [] [] (record {
+      definitions = one ∷ [];
+      count = 0;
+      names = [];
+      frames = top_frame (item_at 15 (Call
+          (pos 1) []) ∷ []) ∷ [];
+    })
+    (record { definitions = refl; count = refl; names = refl; frames = refl; left = refl })
     (each_rule (λ q. ¬ Breaks own_start q) never never never never never never
     (λ h. omega (arith, h)) never never never) (
+      None,
       own_body,
       item_at 15 (Call (pos 1) [])
           ∷ [],
       11,
       refl,
       All-cons (λ i. IsInside i.command) (item_at 6 (Call (pos 1) [])) [] tt (All-nil (λ i. IsInside i.command)),
+      IsSymbolName.later (λ n. never) IsSymbolName.none,
       refl,
       refl,
       refl,
@@ -129,12 +142,13 @@ call_of_itself =
     (record {
       definitions = one ∷ [];
       count = 0;
+      names = [];
       frame = top_frame (item_at 15 (Call (pos 1) []) ∷ []);
       outer = [];
       item = item_at 15 (Call (pos 1) []);
       after = [];
-    }) [] [] (record { definitions = one ∷ []; count = 1; frames = inner own_body ∷ top_frame [] ∷ [] })
-    (record { definitions = refl; count = refl; frames = refl; left = refl })
+    }) [] [] (record { definitions = one ∷ []; count = 1; names = []; frames = inner own_body ∷ top_frame [] ∷ [] })
+    (record { definitions = refl; count = refl; names = refl; frames = refl; left = refl })
     (no_call_rule own_call refl (Stands.newest refl) (λ d h. is_one [] d refl h)
     (λ f h. ap (λ f. f.symbol) (is_only_one (top_frame (item_at 15 (Call (pos 1) []) ∷ [])) f h)) refl)
     (one, [], Stands.newest refl, refl, refl, refl, refl)
@@ -142,12 +156,13 @@ call_of_itself =
     (record {
       definitions = one ∷ [];
       count = 1;
+      names = [];
       frame = inner own_body;
       outer = top_frame [] ∷ [];
       item = item_at 6 (Call (pos 1) []);
       after = [];
     }) F2
-    (record { definitions = refl; count = refl; frames = refl; left = refl }) (
+    (record { definitions = refl; count = refl; names = refl; frames = refl; left = refl }) (
       (
         inner own_body,
         Contains-append_left (inner own_body ∷ []) (top_frame [] ∷ []) (inner own_body)
@@ -168,11 +183,18 @@ abbrev third_body : List Item
 third_body = item_at 10 (SetLayer (layer_name NM)) ∷ item_at 16 square ∷ []
 
 abbrev third : Definition
-third = record { number = pos 1; scale = record { a = pos 1; b = pos 3 }; body = third_body }
+third = record { number = pos 1; scale = record { a = pos 1; b = pos 3 }; name = None; body = third_body }
 
 abbrev third_frame : Option Layer → List Item → Frame
 third_frame l is =
-    record { symbol = Some (pos 1); scale = record { a = pos 1; b = pos 3 }; layer = l; place = λ r. r; left = is }
+    record {
+      symbol = Some (pos 1);
+      way = None;
+      scale = record { a = pos 1; b = pos 3 };
+      layer = l;
+      place = λ r. r;
+      left = is;
+    }
 
 abbrev third_file : List Item
 third_file = item_at 0 (Start (pos 1) (pos 1) (pos 3)) ∷ item_at 10 (SetLayer (layer_name NM)) ∷ item_at 16 square
@@ -183,6 +205,7 @@ third_start =
     record {
       definitions = [];
       count = 0;
+      names = [];
       frame = top_frame third_file;
       outer = [];
       item = item_at 0 (Start (pos 1) (pos 1) (pos 3));
@@ -195,6 +218,7 @@ third_call =
     record {
       definitions = third ∷ [];
       count = 0;
+      names = [];
       frame = top_frame (item_at 31 (Call (pos 1) []) ∷ []);
       outer = [];
       item = item_at 31 (Call (pos 1) []);
@@ -206,6 +230,7 @@ third_layer =
     record {
       definitions = third ∷ [];
       count = 1;
+      names = [];
       frame = third_frame None third_body;
       outer = top_frame [] ∷ [];
       item = item_at 10 (SetLayer (layer_name NM));
@@ -217,6 +242,7 @@ third_last =
     record {
       definitions = third ∷ [];
       count = 2;
+      names = [];
       frame = third_frame (Some NM) (item_at 16 square ∷ []);
       outer = top_frame [] ∷ [];
       item = item_at 16 square;
@@ -233,10 +259,17 @@ no_third z h = omega (arith, ints, h)
 pub third_of_a_unit : FileWalks third_file [] [] (Broken F4 16)
 third_of_a_unit =
     Walks.step third_start [] []
-    (record { definitions = third ∷ []; count = 0; frames = top_frame (item_at 31 (Call (pos 1) []) ∷ []) ∷ [] })
-    (record { definitions = refl; count = refl; frames = refl; left = refl })
+    (record {
+      definitions = third ∷ [];
+      count = 0;
+      names = [];
+      frames = top_frame (item_at 31 (Call
+          (pos 1) []) ∷ []) ∷ [];
+    })
+    (record { definitions = refl; count = refl; names = refl; frames = refl; left = refl })
     (each_rule (λ q. ¬ Breaks third_start q) never never never never never never
     (λ h. omega (arith, h)) never never never) (
+      None,
       third_body,
       item_at 31 (Call (pos 1) [])
           ∷ [],
@@ -244,14 +277,21 @@ third_of_a_unit =
       refl,
       All-cons (λ i. IsInside i.command) (item_at 10 (SetLayer (layer_name NM))) (item_at 16 square ∷ []) tt
           (All-cons (λ i. IsInside i.command) (item_at 16 square) [] tt (All-nil (λ i. IsInside i.command))),
+      IsSymbolName.later (λ n. never) (IsSymbolName.later (λ n. never) IsSymbolName.none),
       refl,
       refl,
       refl,
       refl,
     )
     (Walks.step third_call [] []
-    (record { definitions = third ∷ []; count = 1; frames = third_frame None third_body ∷ top_frame [] ∷ [] })
-    (record { definitions = refl; count = refl; frames = refl; left = refl })
+    (record {
+      definitions = third ∷ [];
+      count = 1;
+      names = [];
+      frames = third_frame None third_body ∷ top_frame [] ∷
+          [];
+    })
+    (record { definitions = refl; count = refl; names = refl; frames = refl; left = refl })
     (each_rule (λ q. ¬ Breaks third_call q) (λ h. h third (Stands.newest refl))
     (λ h. let e : None ≡ Some (pos 1) =
     sym (ap (λ f. f.symbol) (is_only_one (top_frame (item_at 31 (Call (pos 1) []) ∷ [])) h.0 h.1)) ∙ h.2 in cc)
@@ -266,13 +306,20 @@ third_of_a_unit =
     (record {
       definitions = third ∷ [];
       count = 2;
+      names = [];
       frames = third_frame (Some NM) (item_at 16 square ∷ []) ∷ top_frame [] ∷ [];
     })
-    (record { definitions = refl; count = refl; frames = refl; left = refl })
+    (record { definitions = refl; count = refl; names = refl; frames = refl; left = refl })
     (each_rule (λ q. ¬ Breaks third_layer q) never never never never never never (λ h. omega (arith, h)) never never
     (λ h. h NM refl))
     (NM, refl, refl, refl, refl)
-    (Walks.broken third_last F4 (record { definitions = refl; count = refl; frames = refl; left = refl }) (
+    (Walks.broken third_last F4 (record {
+      definitions = refl;
+      count = refl;
+      names = refl;
+      frames = refl;
+      left = refl;
+    }) (
       (λ rs h. elim h.2 [ inl k ↦ no_third h.0.x0 k.2.left.1 | inr k ↦ k.1 refl ]),
       each_rule (λ q. draw_rule_number q < 4 → ¬ Breaks third_last q) (λ k. never) (λ k. never)
           (λ k h. h (inl (refl, (λ e. omega (arith, ints)))))

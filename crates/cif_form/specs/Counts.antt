@@ -1,11 +1,12 @@
 -- How many items are walked of a file: each command by its weight, and with a call what it calls.
-use Rattle.std.specs.Prelude.{ℕ, ◌+◌, ◌≤◌, ◌≡◌, List, [], ◌∷◌, ◌++◌, All, filter, ℤ, int_lt}
+use Rattle.std.specs.Prelude.{ℕ, ◌+◌, ◌≤◌, ◌≡◌, List, [], ◌∷◌, ◌++◌, All, filter, Option, ℤ, int_lt}
 use Rattle.lam_geom.specs.declared.rect.Rect.{Rect}
 use Rattle.lam_geom.specs.declared.label.FlatLabel.{FlatLabel}
 use Rattle.cif_form.specs.declared.command.Turn.{Turn}
 use Rattle.cif_form.specs.declared.command.Command.{Command}
 use Rattle.cif_form.specs.declared.command.Command.TheVariants.{Start, Finish, Delete, Call}
 use Rattle.cif_form.specs.declared.command.Item.{Item}
+use Rattle.cif_form.specs.Names.{IsSymbolName}
 use Rattle.cif_form.specs.Expansion.{Definition, Stands, item_at, IsInside}
 use Rattle.cif_form.specs.Walk.{FileWalks, weight, walk_limit}
 use Rattle.cif_form.specs.Walk.DrawRule.{F7}
@@ -28,9 +29,11 @@ pub data CountsAtTop : List Definition → List Item → ℕ → Type 0 where
   none : {ds : List Definition} → CountsAtTop ds [] 0
   item : {ds : List Definition} {i : Item} {is : List Item} {one rest : ℕ} → IsInside i.command → Counts ds (i ∷ []) one
       → CountsAtTop ds is rest → CountsAtTop ds (i ∷ is) (one + rest)
-  define : {ds : List Definition} {i : Item} {after : List Item} {count : ℕ} (n a b : ℤ) (body is : List Item) (p : ℕ)
-      → i.command ≡ Start n a b → All (λ j. IsInside j.command) body → after ≡ body ++ (item_at p Finish ∷ is)
-      → CountsAtTop (record { number = n; scale = record { a = a; b = b }; body = body } ∷ ds) is count
+  define : {ds : List Definition} {i : Item} {after : List Item} {count : ℕ} (n a b : ℤ) (name : Option (List ℕ))
+      (body is : List Item) (p : ℕ)
+      → i.command ≡ Start n a b → All (λ j. IsInside j.command) body → IsSymbolName body name
+      → after ≡ body ++ (item_at p Finish ∷ is)
+      → CountsAtTop (record { number = n; scale = record { a = a; b = b }; name = name; body = body } ∷ ds) is count
       → CountsAtTop ds (i ∷ after) count
   delete : {ds : List Definition} {i : Item} {is : List Item} {rest : ℕ} (n : ℤ) → i.command ≡ Delete n
       → CountsAtTop (filter (λ d. int_lt d.number n) ds) is rest → CountsAtTop ds (i ∷ is) (1 + rest)

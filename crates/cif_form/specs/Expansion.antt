@@ -1,19 +1,21 @@
--- What the commands of a file draw. Where an F rule other than F7 and F8 is broken, there is no expansion.
+-- What the commands of a file draw. Labels are told by the walk alone. Where an F rule other than F7 and F8 is broken,
+-- there is no expansion.
 use Rattle.std.specs.Prelude.{ℕ, ◌≡◌, ◌≢◌, List, [], ◌∷◌, ◌++◌, map, All, filter, Option, Some, None, ℤ, int_lt}
 use Rattle.lam_geom.specs.declared.layer.Layer.{Layer}
 use Rattle.lam_geom.specs.declared.rect.Rect.{Rect}
-use Rattle.lam_geom.specs.declared.label.FlatLabel.{FlatLabel}
 use Rattle.cif_form.specs.declared.command.Turn.{Turn}
 use Rattle.cif_form.specs.declared.command.Command.{Command}
 use Rattle.cif_form.specs.declared.command.Command.TheVariants as commands
 use Rattle.cif_form.specs.declared.command.Command.TheVariants.{Start, Finish, Delete, Call, User, Comment}
 use Rattle.cif_form.specs.declared.command.Item.{Item}
 use Rattle.cif_form.specs.Place.{Scale, IsScale, unit, HasEdges, Motion, placed, AreMotions, layer_name}
-use Rattle.cif_form.specs.Labels.{IsLabelText, IsNoLabel}
+use Rattle.cif_form.specs.Names.{IsSymbolName}
 
+-- a symbol: its name is that of its commands, or none
 pub record Definition : Type 0 where
   pub number : ℤ
   pub scale : Scale
+  pub name : Option (List ℕ)
   pub body : List Item
 
 -- d is the newest definition of the number
@@ -50,32 +52,26 @@ IsInside Finish = ⊥
 IsInside (Delete number) = ⊥
 IsInside _ = Unit {0}
 
--- a command that is drawn where it stands at top level: it sets no layer, defines nothing, and is no label
+-- a command that is drawn where it stands at top level: it sets no layer and defines nothing
 abbrev pub IsDrawn : Command → Type 0
 IsDrawn (commands.Layer name) = ⊥
-IsDrawn (User digit text) = digit ≡ 9 → IsNoLabel text
 IsDrawn c = IsInside c
 
--- What a file draws, and its labels: its top-level commands in turn, each against the definitions that stand there.
--- The newest definition is the first of the list.
-pub data Expands : List Definition → Option Layer → List Item → List Rect → List FlatLabel → Type 0 where
-  done : {ds : List Definition} {l : Option Layer} → Expands ds l [] [] []
-  layer : {ds : List Definition} {l : Option Layer} {o : ℕ} {is : List Item} {rs : List Rect} {ls : List FlatLabel}
-      (m : Layer) (name : List ℕ)
-      → name ≡ layer_name m → Expands ds (Some m) is rs ls → Expands ds l (item_at o (commands.Layer name) ∷ is) rs ls
-  draw : {ds : List Definition} {l : Option Layer} {o : ℕ} {is : List Item} {rs : List Rect} {ls : List FlatLabel}
-      (c : Command) (qs : List Rect)
-      → IsDrawn c → Draws ds unit l (item_at o c ∷ []) qs → Expands ds l is rs ls
-      → Expands ds l (item_at o c ∷ is) (qs ++ rs) ls
-  label : {ds : List Definition} {l : Option Layer} {o : ℕ} {is : List Item} {rs : List Rect} {ls : List FlatLabel}
-      (text : List ℕ) (m : FlatLabel)
-      → m.offset ≡ o → IsLabelText m text → Expands ds l is rs ls
-      → Expands ds l (item_at o (User 9 text) ∷ is) rs (m ∷ ls)
-  define : {ds : List Definition} {l : Option Layer} {o : ℕ} {rest : List Item} {rs : List Rect} {ls : List FlatLabel}
-      (n a b : ℤ)
-      (body is : List Item) (p : ℕ) → All (λ i. IsInside i.command) body → rest ≡ body ++ (item_at p Finish ∷ is)
-      → Expands (record { number = n; scale = record { a = a; b = b }; body = body } ∷ ds) l is rs ls
-      → Expands ds l (item_at o (Start n a b) ∷ rest) rs ls
-  delete : {ds : List Definition} {l : Option Layer} {o : ℕ} {is : List Item} {rs : List Rect} {ls : List FlatLabel}
-      (n : ℤ)
-      → Expands (filter (λ d. int_lt d.number n) ds) l is rs ls → Expands ds l (item_at o (Delete n) ∷ is) rs ls
+-- What a file draws: its top-level commands in turn, each against the definitions that stand there. The newest
+-- definition is the first of the list.
+pub data Expands : List Definition → Option Layer → List Item → List Rect → Type 0 where
+  done : {ds : List Definition} {l : Option Layer} → Expands ds l [] []
+  layer : {ds : List Definition} {l : Option Layer} {o : ℕ} {is : List Item} {rs : List Rect} (m : Layer)
+      (name : List ℕ)
+      → name ≡ layer_name m → Expands ds (Some m) is rs → Expands ds l (item_at o (commands.Layer name) ∷ is) rs
+  draw : {ds : List Definition} {l : Option Layer} {o : ℕ} {is : List Item} {rs : List Rect} (c : Command)
+      (qs : List Rect)
+      → IsDrawn c → Draws ds unit l (item_at o c ∷ []) qs → Expands ds l is rs
+      → Expands ds l (item_at o c ∷ is) (qs ++ rs)
+  define : {ds : List Definition} {l : Option Layer} {o : ℕ} {rest : List Item} {rs : List Rect} (n a b : ℤ)
+      (name : Option (List ℕ)) (body is : List Item) (p : ℕ) → All (λ i. IsInside i.command) body
+      → IsSymbolName body name → rest ≡ body ++ (item_at p Finish ∷ is)
+      → Expands (record { number = n; scale = record { a = a; b = b }; name = name; body = body } ∷ ds) l is rs
+      → Expands ds l (item_at o (Start n a b) ∷ rest) rs
+  delete : {ds : List Definition} {l : Option Layer} {o : ℕ} {is : List Item} {rs : List Rect} (n : ℤ)
+      → Expands (filter (λ d. int_lt d.number n) ds) l is rs → Expands ds l (item_at o (Delete n) ∷ is) rs

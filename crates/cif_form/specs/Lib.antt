@@ -6,6 +6,8 @@ pub mod Scans
 pub mod Readers
 pub mod Place
 pub mod Labels
+pub mod Names
 pub mod Expansion
 pub mod Walk
+pub mod Laws
 pub mod Counts

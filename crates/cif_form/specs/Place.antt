@@ -1,13 +1,15 @@
--- The rectangles of boxes and wires, scaled, and what the turns of a call do with them.
+-- The rectangles of boxes, wires and polygons, scaled, and what the turns of a call do with them.
+use Rattle.std.specs.List.{AllZip}
 use Rattle.std.specs.Prelude.{ℕ, ◌≡◌, ◌≢◌, ◌⊎◌, List, [], ◌∷◌, ◌++◌, codes, ℤ, pos, ◌+ℤ◌, ◌-ℤ◌, ◌*ℤ◌, ◌<ℤ◌, ◌≤ℤ◌, neg_ℤ}
 use Rattle.lam_geom.specs.declared.layer.Layer.{Layer}
 use Rattle.lam_geom.specs.declared.layer.Layer.TheVariants.{ND, NP, NC, NM, NI, NB, NG}
 use Rattle.lam_geom.specs.declared.place.Point.{Point}
 use Rattle.lam_geom.specs.declared.rect.Rect.{Rect}
+use Rattle.poly_split.specs.Moving.{Fills}
 use Rattle.cif_form.specs.declared.command.Turn.{Turn}
 use Rattle.cif_form.specs.declared.command.Turn.TheVariants.{Move, MirrorX, MirrorY, Rotate}
 use Rattle.cif_form.specs.declared.command.Command.{Command}
-use Rattle.cif_form.specs.declared.command.Command.TheVariants.{Box, Wire}
+use Rattle.cif_form.specs.declared.command.Command.TheVariants.{Box, Wire, Polygon}
 
 abbrev pub layer_name : Layer → List ℕ
 layer_name ND = codes "ND"
@@ -75,10 +77,15 @@ AreSegments s l wide [] [] = Unit {0}
 AreSegments s l wide (p ∷ ps) (r ∷ rs) = IsSegment s l wide p.0 p.1 r × AreSegments s l wide ps rs
 AreSegments s l wide _ _ = ⊥
 
--- the rectangles of one command, before they are placed
+-- a point in units, and the same in half-units at this scale
+abbrev pub IsScaledPoint : Scale → Point → Point → Type 0
+IsScaledPoint s p q = IsScaled s (pos 2 *ℤ p.x) q.x × IsScaled s (pos 2 *ℤ p.y) q.y
+
+-- the rectangles of one command, before they are placed: those of a polygon are any that fill it
 abbrev pub HasEdges : Scale → Layer → Command → List Rect → Type 0
 HasEdges s l (Box long wide center direction) rs = (r : Rect) × (rs ≡ r ∷ []) × IsBox s l long wide center direction r
 HasEdges s l (Wire wide path) rs = AreSegments s l wide (segments path) rs
+HasEdges s l (Polygon path) rs = (points : List Point) × AllZip (IsScaledPoint s) path points × Fills l points rs
 HasEdges s l _ rs = ⊥
 
 -- what a turn of a call does, its numbers in half-units; a quarter is against the clock
@@ -114,3 +121,12 @@ IsMotion s (Rotate p) ms = (p.y ≡ pos 0) × (pos 0 <ℤ p.x) × (ms ≡ [])
 abbrev pub AreMotions : Scale → List Turn → List Motion → Type 0
 AreMotions s [] ms = ms ≡ []
 AreMotions s (t ∷ ts) ms = (front rest : List Motion) × (ms ≡ front ++ rest) × IsMotion s t front × AreMotions s ts rest
+
+-- a point, as a rectangle without squares that is placed as shapes are
+abbrev pub dot : ℤ → ℤ → Rect
+dot x y = record { layer = ND; x0 = x; y0 = y; x1 = x; y1 = y }
+
+-- the square to the upper right of a point, which is placed as shapes are: the square that touches the placed point in
+-- the turned direction of (1, 1)
+abbrev pub cell : ℤ → ℤ → Rect
+cell x y = record { layer = ND; x0 = x; y0 = y; x1 = x +ℤ pos 1; y1 = y +ℤ pos 1 }

@@ -1,17 +1,14 @@
 //! Laws of CIF's text and of what it draws, for the proofs of crates above. A call of one does nothing.
 
-ghost use Rattle.std.specs.Prelude.{◌≡◌, ℕ, List, [], ◌∷◌, ◌++◌, All, None, Some, map, false};
-ghost use Rattle.lam_geom.specs.declared.rect.Rect.{Rect};
-ghost use Rattle.lam_geom.specs.declared.label.FlatLabel.{FlatLabel};
+ghost use Rattle.std.specs.Prelude.{◌≡◌, ℕ, List, ◌∷◌, ◌++◌, All, Some, map, false};
 ghost use Rattle.cif_form.specs.declared.command.Command.{Command};
 ghost use Rattle.cif_form.specs.declared.command.Item.{Item};
 ghost use Rattle.cif_form.specs.Text.{◌▹◌, Byte, Blanks, Reads};
 ghost use Rattle.cif_form.specs.Fits.{Fits};
 ghost use Rattle.cif_form.specs.Scans.{TextEnd, IsReadAs, HasBig, FileScans, Nests};
 ghost use Rattle.cif_form.specs.Readers.{command_from};
-ghost use Rattle.cif_form.specs.Expansion.{Expands};
-ghost use Rattle.cif_form.specs.Walk.{WalkEnd, FileWalks};
-ghost use Rattle.cif_form.specs.Walk.WalkEnd.{Whole};
+ghost use Rattle.cif_form.specs.Laws.{ExpansionIsUnique, PlainExpansionIsUnique, WalkIsUnique, PlainWalkIsUnique};
+ghost use Rattle.cif_form.specs.Laws.{WalkIsExpansion};
 ghost use Rattle.cif_form.specs.Writing.{written, placed_items};
 ghost use Rattle.cif_form.specs.Counts.{WalkIsCounted, CountKeepsLimit};
 
@@ -35,24 +32,22 @@ pub fn reading_is_unique()
         → Reads offset text items → Reads offset text others → items ≡ others }
 {}
 
-/// Commands have at most one expansion.
+/// The squares that commands draw are determined, and their rectangles where no command is a polygon.
 pub fn expansion_is_unique()
-    ensures { (items : List Item) (shapes others : List Rect) (labels names : List FlatLabel)
-        → Expands [] None items shapes labels → Expands [] None items others names
-        → (shapes ≡ others) × (labels ≡ names) }
+    ensures squares { ExpansionIsUnique }
+    ensures rectangles { PlainExpansionIsUnique }
 {}
 
-/// What a walk draws, its labels and how it ends are determined: there is one first broken rule, or none.
+/// The squares that a walk draws, its labels and how it ends are determined: there is one first broken rule, or none;
+/// and its rectangles are, where no command is a polygon.
 pub fn walk_is_unique()
-    ensures { (items : List Item) (shapes others : List Rect) (labels names : List FlatLabel) (end last : WalkEnd)
-        → FileWalks items shapes labels end → FileWalks items others names last
-        → (shapes ≡ others) × (labels ≡ names) × (end ≡ last) }
+    ensures squares { WalkIsUnique }
+    ensures rectangles { PlainWalkIsUnique }
 {}
 
 /// A walk that breaks no rule draws the expansion of its commands.
 pub fn walk_is_expansion()
-    ensures { (items : List Item) (shapes : List Rect) (labels : List FlatLabel)
-        → FileWalks items shapes labels Whole → Expands [] None items shapes labels }
+    ensures { WalkIsExpansion }
 {}
 
 /// How the reading of a file ends, and with what commands, is determined: there is one first broken rule, or none.

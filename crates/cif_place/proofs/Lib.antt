@@ -3,3 +3,4 @@ pub mod Placements
 pub mod Turns
 pub mod Shapes
 pub mod Held
+pub mod Points

@@ -37,10 +37,10 @@ rem_multiple (pos d) z (negsuc a) above e =
 rem_multiple (negsuc d) z p above e = absurd (omega (arith, ints, above))
 
 -- what a signed number of 64 or 128 bits keeps
-kept_64 : (z : ℤ) → IsWithin (2 ^ 33) z → to_z w64 (of_z w64 z) ≡ z
+pub kept_64 : (z : ℤ) → IsWithin (2 ^ 33) z → to_z w64 (of_z w64 z) ≡ z
 kept_64 z h = omega (arith, ints, h.0, h.1)
 
-short_kept : (z : ℤ) → IsShort z → to_z w64 (of_z w64 z) ≡ z
+pub short_kept : (z : ℤ) → IsShort z → to_z w64 (of_z w64 z) ≡ z
 short_kept z h = omega (arith, ints, h.0, h.1)
 
 pub less_kept : (r z w : ℤ) → IsWithin (2 ^ 33) r → IsShort z → IsShort w

@@ -2,3 +2,4 @@ pub mod Placing
 pub mod Turning
 pub mod Shaping
 pub mod Laws
+pub mod Pointing

@@ -1,6 +1,6 @@
 //! Where the shapes of a definition are laid.
 
-ghost use Rattle.std.specs.Prelude.{◌≡◌, ◌^◌, ◌+ℤ◌};
+ghost use Rattle.std.specs.Prelude.{◌≡◌, ◌*◌, ◌^◌, ◌+ℤ◌};
 ghost use Rattle.lam_geom.specs.declared.layer.Layer.{Layer};
 ghost use Rattle.cif_place.specs.Placing.{IsWithin, IsHeld, AreSmall, rect_of, either, flipped, low_end, high_end};
 ghost use Rattle.cif_place.specs.Placing.{here, laid, place_of, switched_if, after};
@@ -33,7 +33,7 @@ fn flip(flips: bool, shift: i128) -> i128
 }
 
 fn low_end(flips: bool, shift: i128, low: i128, high: i128) -> i128
-    requires shift { IsWithin (2 ^ 126) shift }
+    requires shift { IsWithin (2 ^ 104 * 8_000_000) shift }
     requires low { IsWithin (2 ^ 64) low }
     requires high { IsWithin (2 ^ 64) high }
     ensures { result ≡ low_end flips shift low high }
@@ -42,7 +42,7 @@ fn low_end(flips: bool, shift: i128, low: i128, high: i128) -> i128
 }
 
 fn high_end(flips: bool, shift: i128, low: i128, high: i128) -> i128
-    requires shift { IsWithin (2 ^ 126) shift }
+    requires shift { IsWithin (2 ^ 104 * 8_000_000) shift }
     requires low { IsWithin (2 ^ 64) low }
     requires high { IsWithin (2 ^ 64) high }
     ensures { result ≡ high_end flips shift low high }
@@ -51,7 +51,7 @@ fn high_end(flips: bool, shift: i128, low: i128, high: i128) -> i128
 }
 
 fn shifted(base: i128, flips: bool, shift: i128) -> i128
-    requires base { IsWithin (2 ^ 126) base }
+    requires base { IsWithin (2 ^ 104 * 8_000_000) base }
     requires shift { IsWithin (2 ^ 104) shift }
     ensures { result ≡ base +ℤ flipped flips shift }
 {
@@ -92,7 +92,7 @@ impl Placement {
 
     /// One placement after another, which comes first.
     pub fn after(self, inner: Placement) -> Placement
-        requires outer { IsHeld (2 ^ 126) self }
+        requires outer { IsHeld (2 ^ 104 * 8_000_000) self }
         requires inner { IsHeld (2 ^ 104) inner }
         ensures { result ≡ after self inner }
     {
@@ -107,7 +107,7 @@ impl Placement {
     }
 
     fn lay(self, turned: Edges) -> Edges
-        requires held { IsHeld (2 ^ 126) self }
+        requires held { IsHeld (2 ^ 104 * 8_000_000) self }
         requires small { AreSmall turned }
         ensures { (l : Layer) → rect_of l result ≡ laid self.flips_x self.flips_y self.dx self.dy (rect_of l turned) }
     {
@@ -121,7 +121,7 @@ impl Placement {
 
     /// Edges where they are laid.
     pub fn place(self, edges: Edges) -> Edges
-        requires held { IsHeld (2 ^ 126) self }
+        requires held { IsHeld (2 ^ 104 * 8_000_000) self }
         requires small { AreSmall edges }
         ensures { (l : Layer) → rect_of l result ≡ place_of self (rect_of l edges) }
     {

@@ -80,6 +80,17 @@ impl Ratio {
     {
         quotient(product(self.a, distance), self.b)
     }
+
+    /// So many units, in half-units, scaled, or nothing where that isn't whole.
+    pub(crate) fn scaled_twice(self, units: i64) -> Option<i128>
+        requires fit { IsFitRatio self }
+        requires short { IsShort units }
+        ensures whole { IfSome result (λ z. IsScaled (scale_of self) (pos 2 *ℤ units) z) }
+        ensures small { IfSome result (IsWithin (2 ^ 64)) }
+        ensures uneven { IfNone result ((z : ℤ) → ¬ IsScaled (scale_of self) (pos 2 *ℤ units) z) }
+    {
+        self.scaled(twice_more(units, 0))
+    }
 }
 
 /// Twice a number, and another taken from it.

@@ -1,6 +1,6 @@
 //! Boxes and wires.
 
-ghost use Rattle.std.specs.Prelude.{◌≡◌, ◌^◌, ◌<◌, length, slice_index_or, All, IfOk, IfErr, IfSome, IfNone};
+ghost use Rattle.std.specs.Prelude.{◌≡◌, ◌*◌, ◌^◌, ◌<◌, length, slice_index_or, All, IfOk, IfErr, IfSome, IfNone};
 ghost use Rattle.std.specs.Bool.{OnTrue, OnFalse};
 ghost use Rattle.lam_geom.specs.declared.layer.Layer.{Layer};
 ghost use Rattle.lam_geom.specs.declared.rect.Rect.{Rect};
@@ -170,7 +170,7 @@ pub fn draw_wire(
     path: &[Point],
 ) -> Result<Wired, AllocError>
     requires fit { IsFitRatio ratio }
-    requires held { IsHeld (2 ^ 126) placement }
+    requires held { IsHeld (2 ^ 104 * 8_000_000) placement }
     requires extent { IsShort extent.across × (extent.up ≡ extent.across) }
     requires some { 0 < length path.now }
     requires short { All IsShortPoint path.now }

@@ -1,4 +1,4 @@
--- Whether a text is that of a label.
+-- Whether a text is that of a label, or names a symbol.
 use Rattle.std.proofs.Common.{◌≡◌, ◌⊎◌, inl, inr, ℕ, ◌<◌, List, [], ◌∷◌, ◌++◌, Option, Some, None, length, refl, sym}
 use Rattle.std.proofs.Common.{◌∙◌, ap, subst}
 use Rattle.std.specs.Prelude.{All, ℤ, pos, neg_ℤ, ◌*ℤ◌, nat_abs, ◌^◌}
@@ -14,6 +14,7 @@ use Rattle.cif_form.specs.Text.{◌▹◌, Byte}
 use Rattle.cif_form.specs.Fits.{IsSmall}
 use Rattle.cif_form.specs.Place.{layer_name}
 use Rattle.cif_form.specs.Labels.{IsSpace, Spaces, Solid, Coordinate, OwnLayer, IsLabelText}
+use Rattle.cif_form.specs.Names.{IsNameText}
 
 abbrev Known : (List ℕ → Type 0) → Type 0
 Known P = (text : List ℕ) → Decided (P text)
@@ -279,3 +280,20 @@ some_label offset text = same_claim (is_labelling text) fore back
         ),
       ),
     )
+
+-- ---- names of symbols
+
+abbrev Naming : List ℕ → Type 0
+Naming = Spaces ▹ Name ▹ Closing
+
+pub some_name : (text : List ℕ) → Decided ((name : List ℕ) × IsNameText name text)
+some_name text = same_claim (in_turn Spaces (Name ▹ Closing) are_spaces
+    (in_turn Name Closing is_word (λ t. holds_of_all IsSpace is_space t)) text) fore back
+  where
+    fore : Naming text → (name : List ℕ) × IsNameText name text
+    fore (s, rest, e, spaces, (word, end, f, (name, solid), closing)) =
+        (name, (s, rest, e, spaces, (word, end, f, solid, closing)))
+
+    back : (name : List ℕ) × IsNameText name text → Naming text
+    back (name, (s, rest, e, spaces, (word, end, f, solid, closing))) =
+        (s, rest, e, spaces, (word, end, f, (name, solid), closing))

@@ -2,6 +2,8 @@ mod Deciding
 mod Grammar
 mod Scaling
 mod Edges
+mod Polygons
+mod Labels
 mod Rules
 mod Frames
 mod Stepping

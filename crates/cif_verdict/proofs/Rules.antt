@@ -1,30 +1,33 @@
 -- Which rule a command breaks first.
 use Rattle.std.proofs.Common.{◌≡◌, ◌⊎◌, inl, inr, ℕ, zero, suc, ◌+◌, ◌<◌, List, [], ◌∷◌, Option, Some, None, refl, sym}
-use Rattle.std.proofs.Common.{◌∙◌, ap, subst, arith, get_or}
+use Rattle.std.proofs.Common.{◌∙◌, ap, subst, arith, get_or, length}
 use Rattle.std.specs.Prelude.{◌≢◌, All, Contains, ℤ}
 use Rattle.std.proofs.lemmas.Bool.{cases_eq}
 use Rattle.mp_base.proofs.Decisions.{Decided, same_claim, both_of, one_of, not_so, is_number, decided_below, is_integer}
-use Rattle.mp_base.proofs.Decisions.{is_name, holds_of_all}
+use Rattle.mp_base.proofs.Decisions.{is_name, holds_of_all, IsDetermined}
 use Rattle.lam_geom.specs.declared.layer.Layer.{Layer}
 use Rattle.lam_geom.specs.declared.layer.Layer.TheVariants.{ND, NP, NC, NM, NI, NB, NG}
 use Rattle.lam_geom.specs.declared.place.Point.{Point}
 use Rattle.lam_geom.specs.declared.rect.Rect.{Rect}
 use Rattle.lam_geom.specs.Moves.{IsNearRect}
+use Rattle.lam_geom.specs.Inside.{sides}
+use Rattle.poly_split.specs.Splitting.{IsAskew}
 use Rattle.cif_form.specs.declared.command.Turn.{Turn}
 use Rattle.cif_form.specs.declared.command.Turn.TheVariants.{Move, MirrorX, MirrorY, Rotate}
 use Rattle.cif_form.specs.declared.command.Command.{Command}
 use Rattle.cif_form.specs.declared.command.Command.TheVariants as commands
 use Rattle.cif_form.specs.declared.command.Command.TheVariants.{Polygon, Box, Round, Wire, Call}
 use Rattle.cif_form.specs.Expansion.{Definition, Stands}
-use Rattle.cif_form.specs.Place.{IsScale, IsOnAxis, HasEdges, segments, layer_name}
+use Rattle.cif_form.specs.Place.{Scale, IsScale, IsOnAxis, HasEdges, segments, layer_name}
 use Rattle.cif_form.specs.Walk.{Frame, Visit, DrawRule, draw_rule_number, walk_limit, weight, IsWholePoint, IsFarPoint}
 use Rattle.cif_form.specs.Walk.{IsOfNoScale, BreaksBy, Breaks, BreaksFirst, BreaksNone}
 use Rattle.cif_form.specs.Walk.DrawRule.{F1, F2, F3, F4, F5, F6, F7, F8, F9, F10}
-use Rattle.cif_form.proofs.OneExpansion.{one_definition}
-use Rattle.cif_form.proofs.OnePlace.{one_edges}
+use Rattle.cif_form.proofs.OnePlace.{one_box, one_wire}
+use Rattle.cif_form.proofs.OneWalk.{one_definition}
 use Rattle.cif_verdict.proofs.Deciding.{of_the_one, some_in}
 use Rattle.cif_verdict.proofs.Scaling.{is_scale, is_on_axis, is_whole_point, is_far_point}
 use Rattle.cif_verdict.proofs.Edges.{Found, box_edges, wire_edges, is_near_rect}
+use Rattle.cif_verdict.proofs.Polygons.{IsPlacedFar, is_placed_far, is_askew}
 
 -- ---- what a command names
 
@@ -121,9 +124,6 @@ no_scale : (v : Visit) (n : ℤ) → Decided (IsOfNoScale v n)
 no_scale v n = of_the_one (λ d. Stands v.definitions n d) (λ d. ¬ IsScale d.scale) (one_definition v.definitions n)
     (some_definition n v.definitions) (λ d. not_so (is_scale d.scale))
 
-is_skew : (p : Point × Point) → Decided ((p.0.x ≢ p.1.x) × (p.0.y ≢ p.1.y))
-is_skew p = both_of (not_so (is_integer p.0.x p.1.x)) (not_so (is_integer p.0.y p.1.y))
-
 -- the command at v has these rectangles, whose layer matters to no edge
 abbrev Edged : Visit → Command → Layer → List Rect → Type 0
 Edged v c l rs = HasEdges v.frame.scale l c rs
@@ -140,14 +140,19 @@ lacks : (v : Visit) (c : Command) → Found (Edged v c) → Decided (Lacks v c)
 lacks v c (inl here) = inr (λ none. let (rs, h) = here ND in none rs h)
 lacks v c (inr none) = inl (none ND)
 
-has_far : (v : Visit) (c : Command) → Found (Edged v c) → Decided (HasFar v c)
-has_far v c found = of_the_one (Edged v c ND)
-    (λ rs. ¬ All (λ r. IsNearRect (v.frame.place r)) rs) (one_edges v.frame.scale ND c) (drawn found)
+has_far : (v : Visit) (c : Command) → IsDetermined (Edged v c ND) → Found (Edged v c) → Decided (HasFar v c)
+has_far v c one found = of_the_one (Edged v c ND)
+    (λ rs. ¬ All (λ r. IsNearRect (v.frame.place r)) rs) one (drawn found)
     (λ rs. not_so (holds_of_all (λ r. IsNearRect (v.frame.place r)) (λ r. is_near_rect (v.frame.place r)) rs))
   where
     drawn : Found (Edged v c) → Decided ((rs : List Rect) × Edged v c ND rs)
     drawn (inl here) = inl (here ND)
     drawn (inr none) = inr (λ (rs, h). none ND rs h)
+
+one_box_of : (s : Scale) (long wide : ℤ) (center direction : Point)
+    → IsDetermined (HasEdges s ND (Box long wide center direction))
+one_box_of s long wide center direction rs qs (r, e, h) (q, f, k) =
+    e ∙ ap (λ r. r ∷ []) (one_box s ND long wide center direction r q h k) ∙ sym f
 
 breaks_by : (v : Visit) (c : Command) (rule : DrawRule) → c ≡ v.item.command → Decided (BreaksBy v c rule)
 breaks_by v (Call n ts) F1 e = same_claim (not_so (some_definition n v.definitions)) (λ none d h. none (d, h))
@@ -157,7 +162,7 @@ breaks_by v (Call n ts) F2 e =
 breaks_by v (Call n ts) F3 e = some_rotation (λ p. ¬ IsOnAxis p) (λ p. not_so (is_on_axis p)) ts
 breaks_by v (Box long wide center direction) F3 e = not_so (is_on_axis direction)
 breaks_by v (Wire wide path) F3 e = same_claim
-    (some_in (λ (p : Point × Point). (p.0.x ≢ p.1.x) × (p.0.y ≢ p.1.y)) is_skew (segments path))
+    (some_in IsAskew is_askew (segments path))
     (λ (p, among, (across, up)). (p, among, across, up)) (λ (p, among, across, up). (p, among, (across, up)))
 breaks_by v (Call n ts) F4 e = one_of (no_scale v n)
     (some_move (λ p. ¬ IsWholePoint v.frame.scale p) (λ p. not_so (is_whole_point v.frame.scale p)) ts)
@@ -167,19 +172,26 @@ breaks_by v (Box long wide center direction) F4 e =
 breaks_by v (Wire wide path) F4 e =
     same_claim (lacks v (Wire wide path) (wire_edges v.frame.scale wide path)) (subst (Lacks v) e)
     (subst (Lacks v) (sym e))
+breaks_by v (Polygon path) F4 e =
+    some_in (λ p. ¬ IsWholePoint v.frame.scale p) (λ p. not_so (is_whole_point v.frame.scale p)) path
 breaks_by v (Round diameter center) F5 e = inl tt
-breaks_by v (Polygon path) F6 e = inl tt
+breaks_by v (Polygon path) F6 e = one_of (decided_below (length path) 4) (some_in IsAskew is_askew (sides path))
 breaks_by v c F7 e = decided_below walk_limit (v.count + weight c)
 breaks_by v (Call n ts) F8 e =
     some_move (λ p. IsFarPoint v.frame.scale p) (λ p. is_far_point v.frame.scale p) ts
 breaks_by v (Box long wide center direction) F8 e =
-    same_claim (has_far v (Box long wide center direction) (box_edges v.frame.scale long wide center direction))
-    (subst (HasFar v) e) (subst (HasFar v) (sym e))
+    same_claim (has_far v (Box long wide center direction) (one_box_of v.frame.scale long wide center direction)
+    (box_edges v.frame.scale long wide center direction)) (subst (HasFar v) e) (subst (HasFar v) (sym e))
 breaks_by v (Wire wide path) F8 e =
-    same_claim (has_far v (Wire wide path) (wire_edges v.frame.scale wide path)) (subst (HasFar v) e)
-    (subst (HasFar v) (sym e))
+    same_claim (has_far v (Wire wide path) (one_wire v.frame.scale ND wide (segments path))
+    (wire_edges v.frame.scale wide path)) (subst (HasFar v) e) (subst (HasFar v) (sym e))
+breaks_by v (Polygon path) F8 e = same_claim
+    (some_in (IsPlacedFar v.frame.scale v.frame.place) (is_placed_far v.frame.scale v.frame.place) path)
+    (λ (p, among, (q, scaled, far)). (p, q, among, scaled, far))
+    (λ (p, q, among, scaled, far). (p, among, (q, scaled, far)))
 breaks_by v (Box long wide center direction) F9 e = is_unset v.frame.layer
 breaks_by v (Wire wide path) F9 e = is_unset v.frame.layer
+breaks_by v (Polygon path) F9 e = is_unset v.frame.layer
 breaks_by v (commands.Layer name) F10 e = same_claim (not_so (some_layer name)) (λ none l h. none (l, h))
     (λ none (l, h). none l h)
 breaks_by v c rule e = inr (λ h. h)

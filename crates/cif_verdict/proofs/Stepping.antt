@@ -4,12 +4,15 @@ use Rattle.std.proofs.Common.{None, length, map, refl, sym, ◌∙◌, ap, subst
 use Rattle.std.specs.Prelude.{All, Contains, ℤ, filter, int_lt}
 use Rattle.std.proofs.lemmas.Bool.{cases_lt}
 use Rattle.std.proofs.lemmas.List.Elements.{All-cons, All-filter}
-use Rattle.mp_base.proofs.Decisions.{Decided, is_number}
+use Rattle.mp_base.proofs.Decisions.{Decided}
 use Rattle.lam_geom.specs.declared.layer.Layer.{Layer}
 use Rattle.lam_geom.specs.declared.layer.Layer.TheVariants.{ND}
 use Rattle.lam_geom.specs.declared.rect.Rect.{Rect}
 use Rattle.lam_geom.specs.declared.label.FlatLabel.{FlatLabel}
 use Rattle.lam_geom.specs.declared.place.Point.{Point}
+use Rattle.lam_geom.specs.Inside.{sides}
+use Rattle.poly_split.specs.Splitting.{IsAskew}
+use Rattle.poly_split.specs.Polygons.{PolygonsAreSplit}
 use Rattle.cif_form.specs.declared.command.Turn.{Turn}
 use Rattle.cif_form.specs.declared.command.Turn.TheVariants.{Move, Rotate}
 use Rattle.cif_form.specs.declared.command.Command.{Command}
@@ -19,14 +22,14 @@ use Rattle.cif_form.specs.declared.command.Command.TheVariants.{User, Comment}
 use Rattle.cif_form.specs.declared.command.Item.{Item}
 use Rattle.cif_form.specs.Scans.{Nests}
 use Rattle.cif_form.specs.Expansion.{Definition, Stands, IsInside, item_at}
-use Rattle.cif_form.specs.Labels.{IsLabelText}
 use Rattle.cif_form.specs.Place.{Scale, IsOnAxis, HasEdges, Motion, AreMotions}
 use Rattle.cif_form.specs.Walk.{Frame, State, Visit, DrawRule, walk_limit, IsWholePoint, BreaksBy, StepsByShape}
-use Rattle.cif_form.specs.Walk.{StepsByUser, StepsBy, on_layer, onward, within, at_top}
+use Rattle.cif_form.specs.Walk.{StepsBy, on_layer, onward, labelled, within, at_top}
 use Rattle.cif_form.specs.Walk.DrawRule.{F1, F3, F4, F5, F6, F7, F9, F10}
-use Rattle.cif_verdict.proofs.Grammar.{some_label}
+use Rattle.cif_verdict.proofs.Labels.{symbol_name, some_new_label}
 use Rattle.cif_verdict.proofs.Scaling.{some_motion, is_whole_point, is_on_axis}
 use Rattle.cif_verdict.proofs.Edges.{Found, box_edges, wire_edges}
+use Rattle.cif_verdict.proofs.Polygons.{polygon_edges}
 use Rattle.cif_verdict.proofs.Rules.{some_definition, some_layer}
 use Rattle.cif_verdict.proofs.Frames.{commands_of, AreInside, IsOrdered, left_in, body_of, IsPlaced, rest_nests}
 use Rattle.cif_verdict.proofs.Frames.{same_within, body_up_to_finish}
@@ -58,7 +61,7 @@ motions_of s (t ∷ ts) whole axis =
 not_over : (a b : ℕ) → ¬ (a < b + 1) → b < a
 not_over a b few = elim (cases_lt a (b + 1)) [ inl lt ↦ absurd (few lt) | inr le ↦ omega (arith, le) ]
 
-module _ (v : Visit) (bodies : All (λ (d : Definition). AreInside d.body) v.definitions) where
+module _ (split : PolygonsAreSplit) (v : Visit) (bodies : All (λ (d : Definition). AreInside d.body) v.definitions) where
   -- the next state in the same frame
   layered : (c : Command) (l : Option Layer) → IsInside c → IsPlaced c v.after v.outer → IsReached v (on_layer v l)
   layered c l inside placed = record {
@@ -107,24 +110,35 @@ module _ (v : Visit) (bodies : All (λ (d : Definition). AreInside d.body) v.def
   on_its_layer (Some l) e set here =
       let (qs, h) = here l in (map v.frame.place qs, (l, qs, e, h, refl, refl))
 
+  by_edges : (c : Command) → c ≡ v.item.command → ((l : Layer) → (rs : List Rect) × HasEdges v.frame.scale l c rs)
+      → ¬ (v.frame.layer ≡ None) → Shapes
+  by_edges c e here set = on_its_layer v.frame.layer refl set (λ l. let (qs, h) = here l in
+      (qs, subst (λ c. HasEdges v.frame.scale l c qs) e h))
+
   by_shape : (c : Command) → c ≡ v.item.command → Found (λ (l : Layer) (rs : List Rect). HasEdges v.frame.scale l c rs)
       → ¬ (v.frame.layer ≡ None) → ¬ ((rs : List Rect) → ¬ HasEdges v.frame.scale ND v.item.command rs) → Shapes
-  by_shape c e (inl here) set lacks = on_its_layer v.frame.layer refl set (λ l. let (qs, h) = here l in
-      (qs, subst (λ c. HasEdges v.frame.scale l c qs) e h))
+  by_shape c e (inl here) set lacks = by_edges c e here set
   by_shape c e (inr none) set lacks = absurd (lacks (λ rs h. none ND rs
       (subst (λ c. HasEdges v.frame.scale ND c rs) (sym e) h)))
 
   -- ---- labels
 
-  by_user : (digit : ℕ) (text : List ℕ) (outer : List Frame) → v.outer ≡ outer → Decided (digit ≡ 9)
-      → Decided ((label : FlatLabel) × (label.offset ≡ v.item.offset) × IsLabelText label text)
-      → (ls : List FlatLabel) × StepsByUser v digit text ls
-  by_user digit text [] e (inl nine) (inl (label, at, is)) = (label ∷ [], inl (label, (e, nine, at, is), refl))
-  by_user digit text [] e (inl nine) (inr none) =
-      ([], inr ((λ top same label is. none (record label { offset = v.item.offset }, refl, is)), refl))
-  by_user digit text [] e (inr not) known = ([], inr ((λ top nine. absurd (not nine)), refl))
-  by_user digit text (g ∷ gs) e is known =
-      ([], inr ((λ top. absurd (let f : [] ≡ g ∷ gs = sym top ∙ e in cc)), refl))
+  by_user : (digit : ℕ) (text : List ℕ) → IsPlaced (User digit text) v.after v.outer → Goes v (User digit text)
+  by_user digit text placed =
+      let onward = layered (User digit text) v.frame.layer tt placed in elim (some_new_label v digit text) [
+        | inl (label, is, new) ↦ (
+          [],
+          label ∷ [],
+          labelled v label.name,
+          (inl (label, is, new, refl, refl), refl),
+          record {
+            ordered = record { bodies = onward.ordered.bodies; frames = onward.ordered.frames };
+            nearer = onward.nearer;
+          },
+        )
+        | inr none ↦
+            ([], [], on_layer v v.frame.layer, (inr ((λ label is new. none (label, is, new)), refl, refl), refl), onward)
+      ]
 
   -- ---- definitions
 
@@ -141,13 +155,14 @@ module _ (v : Visit) (bodies : All (λ (d : Definition). AreInside d.body) v.def
   by_start n a b [] e (inside, is, nests) =
       let opened : true ≡ inside = same_within is in
       let u = body_up_to_finish v.after (subst (λ o. Nests o (commands_of v.after)) (sym opened) nests) in
-      let d : Definition = record { number = n; scale = record { a = a; b = b }; body = u.body } in
+      let (name, named) = symbol_name u.body in
+      let d : Definition = record { number = n; scale = record { a = a; b = b }; name = name; body = u.body } in
       let size : length v.after ≡ length (u.body ++ (item_at u.finish Finish ∷ u.rest)) = ap length u.split in
       let parts = length-append u.body (item_at u.finish Finish ∷ u.rest) in (
         [],
         [],
         at_top v (d ∷ v.definitions) u.rest,
-        (u.body, u.rest, u.finish, e, u.inside, u.split, refl, refl, refl),
+        (name, u.body, u.rest, u.finish, e, u.inside, named, u.split, refl, refl, refl),
         to_top (d ∷ v.definitions) u.rest
             (All-cons (λ (d : Definition). AreInside d.body) d v.definitions u.inside bodies) u.nests
             (omega (arith, size, parts)),
@@ -170,7 +185,6 @@ module _ (v : Visit) (bodies : All (λ (d : Definition). AreInside d.body) v.def
 
   pub goes : (c : Command) → c ≡ v.item.command → ((rule : DrawRule) → ¬ BreaksBy v c rule)
       → IsPlaced c v.after v.outer → Goes v c
-  goes (Polygon path) e none placed = absurd (none F6 tt)
   goes (Round diameter center) e none placed = absurd (none F5 tt)
   goes (Box long wide center direction) e none placed =
       let (rs, h) = by_shape (Box long wide center direction) e (box_edges v.frame.scale long wide center direction)
@@ -189,10 +203,18 @@ module _ (v : Visit) (bodies : All (λ (d : Definition). AreInside d.body) v.def
     )
     | inr lacks ↦ absurd (none F10 (λ l is. lacks (l, is)))
   ]
+  goes (Polygon path) e none placed =
+      let (rs, h) = by_edges (Polygon path) e (polygon_edges split v.frame.scale path whole straight) (none F9) in
+      (rs, [], onward v, (h, refl), layered (Polygon path) v.frame.layer tt placed)
+    where
+      whole : (p : Point) → Contains path p → IsWholePoint v.frame.scale p
+      whole p among =
+          elim (is_whole_point v.frame.scale p) [ inl is ↦ is | inr not ↦ absurd (none F4 (p, among, not)) ]
+
+      straight : (side : Point × Point) → Contains (sides path) side → ¬ IsAskew side
+      straight side among askew = none F6 (inr (side, among, askew))
   goes (Call n ts) e none placed = by_call n ts none placed (some_definition n v.definitions)
-  goes (User digit text) e none placed =
-      let (ls, h) = by_user digit text v.outer refl (is_number digit 9) (some_label v.item.offset text) in
-      ([], ls, onward v, (h, refl, refl), layered (User digit text) v.frame.layer tt placed)
+  goes (User digit text) e none placed = by_user digit text placed
   goes (Comment text) e none placed =
       ([], [], onward v, (refl, refl, refl), layered (Comment text) v.frame.layer tt placed)
   goes (Start n a b) e none placed = by_start n a b v.outer refl placed

@@ -20,15 +20,16 @@ use Rattle.mp_program.specs.declared.program.Program.{Program}
 use Rattle.mp_program.specs.Pads.{ArePadsOf}
 use Rattle.mp_program.specs.Trace.{IsTrace, IsSettled}
 
--- The bytes are a CIF file: they read as commands, which break no rule of texts; the commands draw shapes with
--- labels, and break no rule of drawing; these draw the network, and break no rule of masks with the pads.
+-- The bytes are a CIF file: they read as commands, which break no rule of texts; the commands draw shapes, and their
+-- walk, which tells the labels, breaks no rule of drawing; these draw the network, and break no rule of masks with the
+-- pads.
 pub record Draws (bytes : List ℕ) (pads : Pads) (network : Network) : Type 0 where
   pub commands : List Item
   pub shapes : List Rect
   pub labels : List FlatLabel
   pub read : Reads 0 bytes commands
   pub well_formed : FileScans bytes commands scans.Whole
-  pub drawn : Expands [] None commands shapes labels
+  pub drawn : Expands [] None commands shapes
   pub drawable : FileWalks commands shapes labels walks.Whole
   pub mask : IsSoundMask (covered shapes) labels network pads
 

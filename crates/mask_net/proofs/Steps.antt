@@ -1,5 +1,5 @@
 -- Steps from the bytes to the network.
-use Rattle.std.proofs.Common.{◌≡◌, ℕ, List, [], inl, inr, sym, subst, Option, Some, None, Result, Ok, Err}
+use Rattle.std.proofs.Common.{◌≡◌, ℕ, List, inl, inr, sym, subst, Option, Some, None, Result, Ok, Err}
 use Rattle.extractor.specs.Extracted.{OfShapes}
 use Rattle.std.proofs.lemmas.List.Elements.{Contains-append_left}
 use Rattle.std.specs.Prelude.{flat_map, IsErrAnd}
@@ -13,9 +13,7 @@ use Rattle.lam_geom.specs.declared.rect.Rect.{Rect}
 use Rattle.lam_geom.specs.declared.label.FlatLabel.{FlatLabel}
 use Rattle.lam_geom.specs.Squares.{covered}
 use Rattle.cif_form.specs.declared.command.Item.{Item}
-use Rattle.cif_form.specs.Expansion.{Expands}
-use Rattle.cif_form.specs.Walk.{FileWalks}
-use Rattle.cif_form.specs.Walk.WalkEnd.{Whole}
+use Rattle.cif_form.specs.Laws.{WalkIsExpansion}
 use Rattle.cif_reader.specs.Refusing.{OfCif}
 use Rattle.cif_flat.specs.Refusing.{OfWalk}
 use Rattle.switch_net.specs.declared.network.Network.{Network}
@@ -31,8 +29,7 @@ of_text bytes (refusals.Broken b) first = inl first
 
 -- what is said of the commands that the bytes read as is said of the bytes
 pub of_commands : {T : Type 0} (bytes : List ℕ) (items : List Item) (result : Result T Refusal) → IsCif bytes items
-    → ((items : List Item) (shapes : List Rect) (labels : List FlatLabel) → FileWalks items shapes labels Whole
-    → Expands [] None items shapes labels) → IsJudged (OfWalk items) result → IsJudged (OfDrawing bytes) result
+    → WalkIsExpansion → IsJudged (OfWalk items) result → IsJudged (OfDrawing bytes) result
 of_commands bytes items (Ok value) cif expands (shapes, labels, walk) =
     (shapes, labels, record { commands = items; cif = cif; drawn = expands items shapes labels walk; drawable = walk })
 of_commands bytes items (Err refusals.NoMemory) cif expands judged = tt

@@ -10,17 +10,20 @@ use Rattle.mp_base.specs.declared.refusal.Refusal.TheVariants as refusals
 use Rattle.mp_base.proofs.Decisions.{IsDetermined}
 use Rattle.lam_geom.specs.declared.rect.Rect.{Rect}
 use Rattle.lam_geom.specs.declared.label.FlatLabel.{FlatLabel}
-use Rattle.lam_geom.specs.Squares.{covered}
+use Rattle.lam_geom.specs.Squares.{covered, SameSquares}
 use Rattle.cif_form.specs.declared.command.Item.{Item}
 use Rattle.cif_form.specs.Scans as scans
 use Rattle.cif_form.specs.Scans.{TextEnd, text_rule_number, FileScans}
 use Rattle.cif_form.specs.Walk as walks
-use Rattle.cif_form.specs.Walk.{WalkEnd, draw_rule_number, FileWalks}
+use Rattle.cif_form.specs.Walk.{draw_rule_number, FileWalks}
+use Rattle.cif_form.specs.Laws.{WalkIsUnique}
 use Rattle.cif_reader.specs.Refusing.{Refuses as RefusesText}
 use Rattle.cif_flat.specs.Refusing.{StopsAt, OffsetIs}
 use Rattle.switch_net.specs.declared.network.Network.{Network}
 use Rattle.switch_net.specs.Breaks.{IsFirstOfMask, n1, n2, n3, n5, one, two, IsDrivenTwice}
+use Rattle.switch_net.specs.Drawn.{IsNetwork}
 use Rattle.switch_net.specs.Laws as nets
+use Rattle.mask_laws.specs.Laws.{NetworkBySquares, FirstBySquares}
 use Rattle.extractor.specs.Extracted.{IsExtracted}
 use Rattle.mask_net.specs.Masks.{IsCif, IsDrawing, IsNetOf, BreaksDrawing, BreaksMask, OfMask}
 
@@ -28,10 +31,10 @@ use Rattle.mask_net.specs.Masks.{IsCif, IsDrawing, IsNetOf, BreaksDrawing, Break
 pub record Laws : Type 0 where
   pub scan : (text : List ℕ) (items others : List Item) (end last : TextEnd) → FileScans text items end
       → FileScans text others last → (items ≡ others) × (end ≡ last)
-  pub walk : (items : List Item) (shapes others : List Rect) (labels names : List FlatLabel) (end last : WalkEnd)
-      → FileWalks items shapes labels end → FileWalks items others names last
-      → (shapes ≡ others) × (labels ≡ names) × (end ≡ last)
+  pub walk : WalkIsUnique
   pub network : nets.OneNetwork
+  pub network_by_squares : NetworkBySquares
+  pub first_by_squares : FirstBySquares
 
 -- a rule of the first stage, or else what the later stages say
 abbrev Stage : (Broken → Type 0) → (Option Broken → Type 0) → Option Broken → Type 0
@@ -54,8 +57,9 @@ module _ (laws : Laws) (bytes : List ℕ) where
   one_cif : IsDetermined (IsCif bytes)
   one_cif a b x y = (laws.scan bytes a b scans.Whole scans.Whole x.well_formed y.well_formed).0
 
+  -- two drawings cover the same squares, and have the same labels
   one_drawing : (shapes others : List Rect) (labels names : List FlatLabel) → IsDrawing bytes shapes labels
-      → IsDrawing bytes others names → (shapes ≡ others) × (labels ≡ names)
+      → IsDrawing bytes others names → SameSquares (covered shapes) (covered others) × (labels ≡ names)
   one_drawing shapes others labels names x y =
       let again =
       subst (λ items. FileWalks items shapes labels walks.Whole)
@@ -66,9 +70,9 @@ module _ (laws : Laws) (bytes : List ℕ) where
   pub one_network : IsDetermined (IsNetOf bytes)
   one_network n m x y =
       let same = one_drawing x.shapes y.shapes x.labels y.labels x.drawing y.drawing in
-      let mask = subst (λ shapes. IsExtracted shapes x.labels n) same.0 x.mask in
-      let mask = subst (λ labels. IsExtracted y.shapes labels n) same.1 mask in
-      laws.network y.shapes y.labels n m mask.network y.mask.network
+      let drawn = laws.network_by_squares x.shapes y.shapes same.0 x.labels n x.mask.network in
+      let labelled = subst (λ labels. IsNetwork (covered y.shapes) labels n) same.1 drawn in
+      laws.network y.shapes y.labels n m labelled y.mask.network
 
   -- ---- the first rule of a stage
 
@@ -105,7 +109,7 @@ module _ (laws : Laws) (bytes : List ℕ) where
   one_of_mask : nets.OneFirstOfMask → IsDetermined (BreaksMask bytes)
   one_of_mask first a b (shapes, labels, drawing, broken) (others, names, again, other) =
       let same = one_drawing shapes others labels names drawing again in
-      let broken = subst (λ shapes. IsFirstOfMask (covered shapes) labels a) same.0 broken in
+      let broken = laws.first_by_squares shapes others same.0 labels a broken in
       first others names a b (subst (λ labels. IsFirstOfMask (covered others) labels a) same.1 broken) other
 
   -- ---- what breaks a rule of a stage has no later stage
@@ -144,7 +148,7 @@ module _ (laws : Laws) (bytes : List ℕ) where
   no_network : (b : Broken) (net : Network) → BreaksMask bytes b → IsNetOf bytes net → ⊥
   no_network b net (shapes, labels, drawing, broken) is =
       let same = one_drawing shapes is.shapes labels is.labels drawing is.drawing in
-      let broken = subst (λ shapes. IsFirstOfMask (covered shapes) labels b) same.0 broken in
+      let broken = laws.first_by_squares shapes is.shapes same.0 labels b broken in
       breaks_nothing is.shapes is.labels net b is.mask
       (subst (λ labels. IsFirstOfMask (covered is.shapes) labels b) same.1 broken)
 

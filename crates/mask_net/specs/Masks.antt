@@ -23,11 +23,12 @@ pub record IsCif (bytes : List ℕ) (commands : List Item) : Type 0 where
   pub read : Reads 0 bytes commands
   pub well_formed : FileScans bytes commands scans.Whole
 
--- the commands of the bytes draw these shapes with labels, and no rule of texts or of drawing is broken
+-- the commands of the bytes draw these shapes, their walk tells these labels, and no rule of texts or of drawing is
+-- broken
 pub record IsDrawing (bytes : List ℕ) (shapes : List Rect) (labels : List FlatLabel) : Type 0 where
   pub commands : List Item
   pub cif : IsCif bytes commands
-  pub drawn : Expands [] None commands shapes labels
+  pub drawn : Expands [] None commands shapes
   pub drawable : FileWalks commands shapes labels walks.Whole
 
 -- the shapes with labels that the bytes draw are a mask of this network, and no rule of texts, of drawing or of masks

@@ -3,6 +3,7 @@
 ghost use Rattle.mask_net.specs.Laws.{OneNetwork, OneVerdict, SoundWithPads};
 
 use cif_form::laws::{scan_is_unique, walk_is_unique};
+use mask_laws::laws::squares_tell_masks;
 use switch_net::laws::{first_rule_is_determined, network_is_determined};
 
 /// A file draws at most one network.
@@ -12,6 +13,7 @@ pub fn one_network()
     scan_is_unique();
     walk_is_unique();
     network_is_determined();
+    squares_tell_masks();
 }
 
 /// A file breaks no rule of texts, drawing and masks, or has one first broken rule at one place.
@@ -21,6 +23,7 @@ pub fn one_verdict()
     scan_is_unique();
     walk_is_unique();
     network_is_determined();
+    squares_tell_masks();
     first_rule_is_determined();
 }
 

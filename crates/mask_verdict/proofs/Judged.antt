@@ -1,5 +1,5 @@
 -- A file draws a network, or breaks one rule first.
-use Rattle.std.proofs.Common.{◌⊎◌, inl, inr, ℕ, List, [], Option, Some, None, false, map, refl}
+use Rattle.std.proofs.Common.{◌⊎◌, inl, inr, ℕ, List, Option, Some, None, false, map, refl}
 use Rattle.std.specs.Prelude.{All}
 use Rattle.mp_base.specs.declared.refusal.Broken.{Broken}
 use Rattle.mp_base.specs.declared.refusal.Family.TheVariants.{C, F}
@@ -10,7 +10,7 @@ use Rattle.lam_geom.specs.Squares.{covered}
 use Rattle.cif_form.specs.declared.command.Item.{Item}
 use Rattle.cif_form.specs.Fits.{Fits}
 use Rattle.cif_form.specs.Text.{Reads}
-use Rattle.cif_form.specs.Expansion.{Expands}
+use Rattle.cif_form.specs.Laws.{WalkIsExpansion}
 use Rattle.cif_form.specs.Scans.{TextEnd, FileScans, Nests, text_rule_number}
 use Rattle.cif_form.specs.Scans.TextEnd.{Whole as Read, Broken as Unread}
 use Rattle.cif_form.specs.Walk.{WalkEnd, FileWalks, draw_rule_number}
@@ -28,8 +28,7 @@ pub record Stages : Type 0 where
   pub reading : (bytes : List ℕ) (items : List Item) → FileScans bytes items Read → Reads 0 bytes items
   pub walk : (items : List Item) → Nests false (map (λ (i : Item). i.command) items)
       → (shapes : List Rect) × (labels : List FlatLabel) × (end : WalkEnd) × FileWalks items shapes labels end
-  pub expansion : (items : List Item) (shapes : List Rect) (labels : List FlatLabel)
-      → FileWalks items shapes labels Drawn → Expands [] None items shapes labels
+  pub expansion : WalkIsExpansion
   pub mask : MaskIsJudged
 
 abbrev Judged : List ℕ → Type 0

@@ -1,7 +1,7 @@
 -- The line that tells a broken rule.
 use Rattle.std.specs.Prelude.{ℕ, List, [], ◌∷◌, ◌++◌, codes, decimal}
 use Rattle.mp_base.specs.declared.refusal.Family.{Family}
-use Rattle.mp_base.specs.declared.refusal.Family.TheVariants.{E, S, C, F, N, B, L}
+use Rattle.mp_base.specs.declared.refusal.Family.TheVariants.{E, S, C, F, N, B, L, P}
 use Rattle.mp_base.specs.declared.refusal.Spot.{Spot}
 use Rattle.mp_base.specs.declared.refusal.Spot.TheVariants.{At, Offset, Named, Nowhere}
 use Rattle.mp_base.specs.declared.refusal.Broken.{Broken}
@@ -14,6 +14,7 @@ letter_of F = codes "F"
 letter_of N = codes "N"
 letter_of B = codes "B"
 letter_of L = codes "L"
+letter_of P = codes "P"
 
 abbrev pub spot_text : Spot → List ℕ
 spot_text (At place) = codes " at " ++ decimal place.offset ++ codes " line " ++ decimal place.line ++ codes " column "

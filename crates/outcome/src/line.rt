@@ -17,6 +17,7 @@ fn letter(family: Family) -> &'static str
         Family::N => "N",
         Family::B => "B",
         Family::L => "L",
+        Family::P => "P",
     }
 }
 

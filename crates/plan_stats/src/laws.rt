@@ -2,7 +2,7 @@
 
 ghost use Rattle.plan_stats.specs.Stats.{PlansMakeChips};
 
-use cif_form::laws::{expansion_is_unique, walk_is_counted, walk_is_expansion, walk_is_unique};
+use cif_form::laws::{walk_is_counted, walk_is_unique};
 use slice_symbols::laws::symbols_exist;
 
 /// The plan of a program's chip makes one: the chip has commands, and their text is a chip of the program.
@@ -10,8 +10,6 @@ pub fn plans_make_chips()
     ensures { PlansMakeChips }
 {
     symbols_exist();
-    expansion_is_unique();
     walk_is_unique();
-    walk_is_expansion();
     walk_is_counted();
 }

@@ -1,7 +1,9 @@
--- The law of walks.
-use Rattle.cif_form.specs.Walk.{start}
-use Rattle.cif_form.proofs.OneWalk.{one_walk}
+-- The laws of walks.
+use Rattle.cif_form.proofs.OneWalk.{walk_is_unique, plain_walk_is_unique}
 use Rattle.cif_form.proofs.laws.walk_is_unique.Goals as goal
 
-pub returns : goal.returns
-returns c = λ items. one_walk (start items)
+pub returns-clause-squares : goal.returns-clause-squares
+returns-clause-squares c = walk_is_unique
+
+pub returns-clause-rectangles : goal.returns-clause-rectangles
+returns-clause-rectangles c = plain_walk_is_unique

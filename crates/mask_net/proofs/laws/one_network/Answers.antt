@@ -6,6 +6,8 @@ returns c =
     one_network
     (record {
       scan = c.scan_is_unique.ensures;
-      walk = c.walk_is_unique.ensures;
+      walk = c.walk_is_unique.ensures.squares;
       network = c.network_is_determined.ensures.network;
+      network_by_squares = c.squares_tell_masks.ensures.network;
+      first_by_squares = c.squares_tell_masks.ensures.first;
     })

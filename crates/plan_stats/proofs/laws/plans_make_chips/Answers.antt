@@ -3,8 +3,6 @@ use Rattle.plan_stats.proofs.laws.plans_make_chips.Goals as goal
 
 pub returns : goal.returns
 returns c = plans_make c.symbols_exist.ensures (record {
-  expansion = c.expansion_is_unique.ensures;
-  walk = c.walk_is_unique.ensures;
-  draws = c.walk_is_expansion.ensures;
+  walk = c.walk_is_unique.ensures.squares;
   limit = c.walk_is_counted.ensures.limit;
 })

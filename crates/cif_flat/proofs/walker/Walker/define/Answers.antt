@@ -35,7 +35,14 @@ overflow_add-end-2 c =
 pub returns-clause-ok : goal.returns-clause-ok
 returns-clause-ok c =
     defined c.args.items.now c.args.self.now c.args.level c.args.offset c.args.number.now c.args.a.now c.args.b.now
-    c.requires c.body_size.result c.body_size.ensures c.key_of.result c.key_of.ensures c.of-ratio.result
-    c.of-ratio.ensures c.set.new.table c.in_ok-set.ensures.here c.in_ok-set.ensures.others
+    c.requires c.body_size.result c.body_size.ensures c.key_of.result c.key_of.ensures c.of.result
+    c.of.ensures c.naming_of.result c.naming_of.ensures c.set.new.table c.in_ok-set.ensures.here c.in_ok-set.ensures.others
     c.go_on.new.self c.in_ok-go_on.ensures.kept
     (c.in_ok-go_on.ensures.pushed ∙ ap (λ u. c.args.self.now.levels.items ++ u ∷ []) c.resumed.ensures)
+
+pub naming_of-requires-clause-within : goal.naming_of-requires-clause-within
+naming_of-requires-clause-within c =
+    let r = body_room c.args.items.now c.args.self.now c.args.level c.args.offset c.args.number.now c.args.a.now
+    c.args.b.now c.requires c.body_size.result c.body_size.ensures in
+    let l = level_of c.args.items.now c.args.self.now c.args.level _ c.requires in
+    omega (arith, r, l.within)

@@ -1,9 +1,18 @@
-use Rattle.std.proofs.Common.{◌∙◌, ◌++◌, ◌∷◌, [], length, sym, ap, subst, arith, Some, None}
-use Rattle.std.proofs.lemmas.List.{nil_from_length}
-use Rattle.cif_flat.specs.Labelling.{IsLabelled}
+use Rattle.std.proofs.Common.{◌≡◌, ◌+◌, ◌∙◌, ◌++◌, ◌∷◌, ◌||◌, [], sym, ap, subst, arith, Some, None}
 use Rattle.cif_flat.specs.Refusing.{RefusesWalk}
-use Rattle.cif_flat.proofs.Arms.{user_counted, user_passed, user_labelled}
+use Rattle.cif_flat.specs.Walking.{IsFound}
+use Rattle.cif_flat.proofs.Arms.{held_here, ratio_here, user_counted, user_passed, user_labelled}
+use Rattle.cif_flat.specs.Meeting.{was_met, is_name}
+use Rattle.cif_flat.specs.declared.walker.Walker.{Walker}
+use Rattle.cif_flat.proofs.Walks.{onward}
 use Rattle.cif_flat.proofs.walker.Walker.user.Goals as goal
+use Rattle.cif_flat.proofs.walker.Walker.user.Goals.{in-Some+in_ok-meet+in_ok-push, in_default}
+
+pub label_at-requires : goal.label_at-requires
+label_at-requires c = record {
+  fit = ratio_here c.args.items.now c.args.self.now c.args.level _ c.requires;
+  held = held_here c.args.items.now c.args.self.now c.args.level _ c.requires;
+}
 
 pub returns-then-self-ge-WALK_LIMIT-clause-err : goal.returns-then-self-ge-WALK_LIMIT-clause-err
 returns-then-self-ge-WALK_LIMIT-clause-err c =
@@ -11,37 +20,29 @@ returns-then-self-ge-WALK_LIMIT-clause-err c =
     (user_counted c.args.items.now c.args.self.now c.args.level c.args.offset c.args.digit.now c.args.text.now
     c.requires (omega arith))
 
-pub returns-then-digit-ne9-clause-ok : goal.returns-then-digit-ne9-clause-ok
-returns-then-digit-ne9-clause-ok c =
-    user_passed c.args.items.now c.args.self.now c.args.level c.args.offset c.args.digit.now c.args.text.now c.requires
-    (omega arith) (λ e d. absurd (c.if-digit-ne9.true d)) c.go_on.new.self
-    c.in_ok-go_on.ensures.kept
-    (c.in_ok-go_on.ensures.pushed ∙ ap (λ u. c.args.self.now.levels.items ++ u ∷ []) c.onward.ensures)
-
-pub returns-then-len-gt0-clause-ok : goal.returns-then-len-gt0-clause-ok
-returns-then-len-gt0-clause-ok c =
-    let n = c.len.ensures in
-    user_passed c.args.items.now c.args.self.now c.args.level c.args.offset c.args.digit.now c.args.text.now c.requires
-    (omega arith) (λ e d. absurd (omega (arith, n, ap length e))) c.go_on-then-len-gt0.new.self
-    c.in_ok-go_on-2.ensures.kept
-    (c.in_ok-go_on-2.ensures.pushed ∙ ap (λ u. c.args.self.now.levels.items ++ u ∷ []) c.onward-then-len-gt0.ensures)
-
-pub returns-in_default-clause-ok : goal.returns-in_default-clause-ok
-returns-in_default-clause-ok c =
-    let no : IsLabelled c.args.offset c.args.text.now None =
-    subst (IsLabelled c.args.offset c.args.text.now) c.in_default.is c.in_ok-label.ensures in
-    user_passed c.args.items.now c.args.self.now c.args.level c.args.offset c.args.digit.now c.args.text.now c.requires
-    (omega arith) (λ e d. no) c.go_on-in_default.new.self
-    c.in_ok-go_on-3.ensures.kept
-    (c.in_ok-go_on-3.ensures.pushed ∙ ap (λ u. c.args.self.now.levels.items ++ u ∷ []) c.onward-in_default.ensures)
-
 pub returns-clause-ok : goal.returns-clause-ok
 returns-clause-ok c =
-    let n = c.len.ensures in
-    let is : IsLabelled c.args.offset c.args.text.now (Some c.in-Some.label) =
-    subst (IsLabelled c.args.offset c.args.text.now) c.in-Some.is c.in_ok-label.ensures in
-    user_labelled c.args.items.now c.args.self.now c.args.level c.args.offset c.args.digit.now c.args.text.now
-    c.requires (omega arith) (nil_from_length c.args.self.now.levels.items (omega (arith, n)))
-    (omega arith) c.in-Some.label is.0 is.1 c.push.new.self c.in_ok-push.ensures.ok c.go_on-2.new.self
-    c.in_ok-go_on-4.ensures.kept
-    (c.in_ok-go_on-4.ensures.pushed ∙ ap (λ u. c.args.self.now.levels.items ++ u ∷ []) c.onward-2.ensures)
+    let w = c.args.self.now in
+    let new = c.go_on.new.self in
+    let kept = c.in_ok-go_on.ensures.kept in
+    let pushed : new.levels.items ≡ c.match-branch-2.self.levels.items ++ onward c.args.level c.args.level.layer ∷ [] =
+    c.in_ok-go_on.ensures.pushed ∙ ap (λ u. c.match-branch-2.self.levels.items ++ u ∷ []) c.onward.ensures in
+    elim c.match-branch-2.branch [
+      | in-Some+in_ok-meet+in_ok-push b ↦
+          user_labelled c.args.items.now w c.args.level c.args.offset c.args.digit.now c.args.text.now c.requires
+          (omega arith) b.in-Some.label
+          (subst (IsFound c.args.items.now w c.args.level c.args.offset c.args.digit.now c.args.text.now) b.in-Some.is
+          c.in_ok-label.ensures)
+          (record w { met = b.meet.new.met })
+          (λ q. b.in_ok-meet.ensures q
+          ∙ ap (λ n. is_name n q || was_met w.met q) b.bytes.ensures) b.push.new.self b.in_ok-push.ensures.ok new
+          (kept ∙ ap (λ (s : Walker). record s { count = s.count + 1; levels = new.levels }) b.self-is)
+          (pushed ∙ ap (λ (s : Walker). s.levels.items ++ onward c.args.level c.args.level.layer ∷ []) b.self-is)
+      | in_default b ↦
+          user_passed c.args.items.now w c.args.level c.args.offset c.args.digit.now c.args.text.now c.requires
+          (omega arith)
+          (subst (IsFound c.args.items.now w c.args.level c.args.offset c.args.digit.now c.args.text.now) b.in_default.is
+          c.in_ok-label.ensures)
+          new (kept ∙ ap (λ (s : Walker). record s { count = s.count + 1; levels = new.levels }) b.self-is)
+          (pushed ∙ ap (λ (s : Walker). s.levels.items ++ onward c.args.level c.args.level.layer ∷ []) b.self-is)
+    ]

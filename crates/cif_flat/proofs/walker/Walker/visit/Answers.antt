@@ -6,7 +6,7 @@ use Rattle.cif_list.specs.Showing.{command_shown, item_shown}
 use Rattle.cif_list.specs.Turning.{wide_turn}
 use Rattle.cif_flat.specs.Refusing.{RefusesWalk}
 use Rattle.cif_flat.specs.Walking.{IsVisit}
-use Rattle.cif_flat.proofs.Arms.{visiting, visit_within, no_finish, polygon, round}
+use Rattle.cif_flat.proofs.Arms.{visiting, visit_within, no_finish, round}
 use Rattle.cif_flat.proofs.walker.Walker.visit.Goals as goal
 
 pub at-item-requires : goal.at-item-requires
@@ -67,15 +67,14 @@ draw_wire-requires-clause-visit c =
 pub draw_wire-requires-clause-square : goal.draw_wire-requires-clause-square
 draw_wire-requires-clause-square c = ap (λ e. e.up) c.of-in-Wire.ensures ∙ sym (ap (λ e. e.across) c.of-in-Wire.ensures)
 
-pub returns-in-Polygon-clause-err : goal.returns-in-Polygon-clause-err
-returns-in-Polygon-clause-err c = subst (RefusesWalk c.args.items.now) (sym c.broken.ensures)
-    (polygon c.args.items.now c.args.self.now c.args.level c.at-item.result.offset c.in-Polygon.field-0.now
-    (visiting c.args.items.now c.args.self.now c.args.level (item_shown c.at-item.result)
-    (Polygon c.in-Polygon.field-0.now) c.requires.fit c.requires.walking c.requires.more c.at-item.ensures
-    (ap command_shown c.in-Polygon.is)))
+pub draw_polygon-requires : goal.draw_polygon-requires
+draw_polygon-requires c =
+    visiting c.args.items.now c.args.self.now c.args.level (item_shown c.at-item.result)
+    (Polygon c.in-Polygon.path.now) c.requires.fit c.requires.walking c.requires.more c.at-item.ensures
+    (ap command_shown c.in-Polygon.is)
 
 pub returns-in-Round-clause-err : goal.returns-in-Round-clause-err
-returns-in-Round-clause-err c = subst (RefusesWalk c.args.items.now) (sym c.broken-in-Round.ensures)
+returns-in-Round-clause-err c = subst (RefusesWalk c.args.items.now) (sym c.broken.ensures)
     (round c.args.items.now c.args.self.now c.args.level c.at-item.result.offset c.in-Round.diameter c.in-Round.center
     (visiting c.args.items.now c.args.self.now c.args.level (item_shown c.at-item.result)
     (Round c.in-Round.diameter c.in-Round.center) c.requires.fit c.requires.walking c.requires.more c.at-item.ensures
