@@ -1,0 +1,4 @@
+pub mod Connected
+pub mod Apart
+pub mod Covering
+pub mod Gaps

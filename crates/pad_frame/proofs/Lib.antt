@@ -1,0 +1,4 @@
+mod Framing
+mod Drawing
+mod Example
+pub mod Loose
