@@ -19,7 +19,7 @@ use Rattle.board.proofs.Words.{links_more, links_none}
 
 -- ---- what is decided
 
-is_none : (o : Option ℕ) → Decided (o ≡ None)
+pub is_none : (o : Option ℕ) → Decided (o ≡ None)
 is_none None = inl refl
 is_none (Some v) = inr (λ e. (let some : Some v ≡ None = e in cc))
 
@@ -34,11 +34,11 @@ some_of : (o : Option ℕ) → (o ≡ None → ⊥) → (v : ℕ) × (o ≡ Some
 some_of None none = absurd (none refl)
 some_of (Some v) none = (v, refl)
 
-any_of : (P : Link → Type 0) → ((l : Link) → Decided (P l)) → (ls : List Link) → Decided (Any P ls)
+pub any_of : {X : Type 0} (P : X → Type 0) → ((l : X) → Decided (P l)) → (ls : List X) → Decided (Any P ls)
 any_of P known [] = inr (λ (k, x, lt, at, p). omega (arith, lt))
-any_of P known (l ∷ ls) = by (known l) (any_of P known ls)
+any_of {X} P known (l ∷ ls) = by (known l) (any_of P known ls)
   where
-    neither : (P l → ⊥) → (Any P ls → ⊥) → (k : ℕ) (x : Link) → k < length (l ∷ ls) → get_or (l ∷ ls) k x ≡ x → P x
+    neither : (P l → ⊥) → (Any P ls → ⊥) → (k : ℕ) (x : X) → k < length (l ∷ ls) → get_or (l ∷ ls) k x ≡ x → P x
         → ⊥
     neither none never zero x lt at p = none (subst P (sym at) p)
     neither none never (suc k) x lt at p = never (k, x, omega (arith, lt), at, p)
@@ -78,7 +78,7 @@ module _ (earlier : List Link) (n : Naming) where
         },
       )
 
-  judged : ((l : Link) × IsLinkOf n earlier l) ⊎ ((rule : Rule) × Breaks earlier n rule)
+  pub judged : ((l : Link) × IsLinkOf n earlier l) ⊎ ((rule : Rule) × Breaks earlier n rule)
   judged = by first second
     where
       by : Decided (BreaksB1 earlier n) → Decided (BreaksB2 earlier n)

@@ -1,10 +1,16 @@
 mod Widths
 mod Faces
+mod Puts
 mod Given
 mod Ready
 mod Loops
 mod Words
 pub mod JoinedLoops
 mod GoingOn
+pub mod SwappedLoops
+mod GoingOnWith
+pub mod Calls
+mod Clocks
+mod Plans
 mod Verdict
 mod Existence

@@ -10,9 +10,10 @@ use Rattle.outside.proofs.Written.{gained}
 use Rattle.stimulus.specs.Transcript.{line_text, lines_text}
 use Rattle.transcript.specs.Transcript.{RunsAlong}
 use Rattle.board.specs.Face.{Face}
-use Rattle.board.specs.Loop.{Wired, inputs_at, is_settled, all_see, faces_after, inputs_along, faces_along}
+use Rattle.board.specs.Loop.{Wired, inputs_at, is_settled, all_see, faces_after, made, inputs_with, faces_with}
+use Rattle.board.specs.Loop.{inputs_along, faces_along}
 use Rattle.board.specs.Printing.{PrintsClock, Looped, PrintsLoop}
-use Rattle.board.specs.Laws.{LoopsAgree}
+use Rattle.board.specs.Laws.{LoopsAgree, SwappedLoopsAgree}
 
 -- ---- loops that show the same in settled clocks
 
@@ -21,17 +22,21 @@ same_faces : (w : Wired) (clock : ℕ) (faces : List Face) (o p : List (List Tri
 same_faces w clock faces o p true e h = ap (λ x. all_see w.links x faces) (h refl)
 same_faces w clock faces o p false e h = refl
 
-pub agree : LoopsAgree
-agree w clock faces [] [] h = (refl, refl)
-agree w clock faces [] (p ∷ ps) h = absurd h
-agree w clock faces (o ∷ os) [] h = absurd h
-agree w clock faces (o ∷ os) (p ∷ ps) h =
-    let f : faces_after w clock o faces ≡ faces_after w clock p faces =
-    same_faces w clock faces o p (is_settled w clock) refl h.0 in
-    let r = agree w (suc clock) (faces_after w clock o faces) os ps h.1 in (
-      ap (λ is. inputs_at w clock faces ∷ is) (r.0 ∙ ap (λ fs. inputs_along w (suc clock) fs ps) f),
-      r.1 ∙ ap (λ fs. faces_along w (suc clock) fs ps) f,
+pub agree_with : SwappedLoopsAgree
+agree_with ss w clock faces [] [] h = (refl, refl)
+agree_with ss w clock faces [] (p ∷ ps) h = absurd h
+agree_with ss w clock faces (o ∷ os) [] h = absurd h
+agree_with ss w clock faces (o ∷ os) (p ∷ ps) h =
+    let now = made w.links ss clock faces in
+    let f : faces_after w clock o now ≡ faces_after w clock p now =
+    same_faces w clock now o p (is_settled w clock) refl h.0 in
+    let r = agree_with ss w (suc clock) (faces_after w clock o now) os ps h.1 in (
+      ap (λ is. inputs_at w clock now ∷ is) (r.0 ∙ ap (λ fs. inputs_with ss w (suc clock) fs ps) f),
+      r.1 ∙ ap (λ fs. faces_with ss w (suc clock) fs ps) f,
     )
+
+pub agree : LoopsAgree
+agree = agree_with []
 
 -- ---- one more clock
 

@@ -15,7 +15,7 @@ use Rattle.board.specs.declared.link.Naming.{Naming}
 use Rattle.board.specs.Boarding.{AreApart}
 use Rattle.board.specs.Links.{AreLinks, Breaks, BreaksB1, BreaksB2, IsFirstBroken, naming, naming_of}
 
-same_link : (a b : Link) → naming_of a ≡ naming_of b → a ≡ b
+pub same_link : (a b : Link) → naming_of a ≡ naming_of b → a ≡ b
 same_link a b e =
     let part : Some a.part ≡ Some b.part = ap (λ (n : Naming). n.part) e in
     let seen : Some a.seen ≡ Some b.seen = ap (λ (n : Naming). n.seen) e in
@@ -110,7 +110,7 @@ module _ (parts : List (List ℕ)) (pads : Pads) where
       let Q : Naming → Type 0 = λ n. Breaks (take k links) n b.rule in
       no_rule links k at.0 b.rule are.apart at.1 (subst Q at.2 (subst P (sym before) broken.breaks))
 
-  one_rule : (links : List Link) (n : Naming) (a b : Rule) → Breaks links n a → Breaks links n b → a ≡ b
+  pub one_rule : (links : List Link) (n : Naming) (a b : Rule) → Breaks links n a → Breaks links n b → a ≡ b
   one_rule links n a b (inl x) (inl y) = x.1 ∙ sym y.1
   one_rule links n a b (inl x) (inr y) = absurd (y.0 x.0)
   one_rule links n a b (inr x) (inl y) = absurd (x.0 y.0)

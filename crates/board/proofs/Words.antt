@@ -146,7 +146,7 @@ module _ {P : Type 0} (name_of : P → List ℕ) (xs : List P) (name : List ℕ)
       ]
 
 -- a place of a name
-place_inside : (names : List (List ℕ)) (name : List ℕ) (i : ℕ) → place_of names name ≡ Some i
+pub place_inside : (names : List (List ℕ)) (name : List ℕ) (i : ℕ) → place_of names name ≡ Some i
     → (i < length names) × (bytes_eq (get_or names i []) name ≡ true)
 place_inside names name i e = let h = position-Some (λ n. bytes_eq n name) names i [] e in (h.0, h.1)
 
@@ -184,7 +184,7 @@ module _ (parts : List (List ℕ)) (pads : Pads) where
   no_link l e = let p : None ≡ Some l.part = ap (λ (n : Naming). n.part) e in cc
 
   -- a word that names all three is a wire
-  wire_by : (fs : List (List ℕ)) (l : Link) → named_by parts pads fs ≡ naming_of l
+  pub wire_by : (fs : List (List ℕ)) (l : Link) → named_by parts pads fs ≡ naming_of l
       → (l.part < length parts) × IsWire pads l
   wire_by [] l e = absurd (no_link l e)
   wire_by (a ∷ []) l e = absurd (no_link l e)

@@ -94,21 +94,62 @@ all_see (l ∷ ls) shown faces = all_see ls shown (see_at (number_of (slice_inde
 abbrev pub faces_after : Wired → ℕ → List (List Trit) → List Face → List Face
 faces_after w clock shown faces = if is_settled w clock then all_see w.links shown faces else faces
 
+-- ---- swaps
+
+-- When so many clocks have run, this part takes the place of the part of the link with this index, in its own state.
+pub record Exchange : Type 0 where
+  pub clock : ℕ
+  pub link : ℕ
+  pub fresh : Face
+
+-- the part of the link with this index
+abbrev pub part_of : List Link → ℕ → ℕ
+part_of [] link = 0
+part_of (l ∷ ls) zero = l.part
+part_of (l ∷ ls) (suc link) = part_of ls link
+
+-- another part in place of the one with this index
+abbrev pub put_at : Face → ℕ → List Face → List Face
+put_at fresh part [] = []
+put_at fresh zero (f ∷ fs) = fresh ∷ fs
+put_at fresh (suc part) (f ∷ fs) = f ∷ put_at fresh part fs
+
+-- the parts once the swaps of a clock are made, in their order
+abbrev pub made : List Link → List Exchange → ℕ → List Face → List Face
+made links [] clock faces = faces
+made links (s ∷ ss) clock faces = made links ss clock
+    (if s.clock == clock then put_at s.fresh (part_of links s.link) faces else faces)
+
 -- ---- the loop
 
 -- what the inputs are given in the clocks in which these are shown, of which the first has this number
+abbrev pub inputs_with : List Exchange → Wired → ℕ → List Face → List (List (List Trit)) → List (List ℕ)
+inputs_with swaps w clock faces [] = []
+inputs_with swaps w clock faces (o ∷ os) = inputs_at w clock (made w.links swaps clock faces)
+    ∷ inputs_with swaps w (suc clock) (faces_after w clock o (made w.links swaps clock faces)) os
+
+-- the parts after these clocks, with the swaps made by then
+abbrev pub faces_with : List Exchange → Wired → ℕ → List Face → List (List (List Trit)) → List Face
+faces_with swaps w clock faces [] = made w.links swaps clock faces
+faces_with swaps w clock faces (o ∷ os) =
+    faces_with swaps w (suc clock) (faces_after w clock o (made w.links swaps clock faces)) os
+
+-- The loop from a clock on: the device runs along what the parts drive, and the parts move by what it shows. The swaps
+-- of a clock are made before it.
+pub record IsSwappedLoop (swaps : List Exchange) {S : Type 0} (Steps : S → List ℕ → List (List Trit) → S → Type 0)
+    (w : Wired) (clock : ℕ) (before : S) (faces : List Face) (shown : List (List (List Trit))) (after : S)
+    (later : List Face) : Type 0 where
+  pub runs : RunsAlong Steps before (inputs_with swaps w clock faces shown) shown after
+  pub parts : later ≡ faces_with swaps w clock faces shown
+
+-- ---- the same without swaps
+
 abbrev pub inputs_along : Wired → ℕ → List Face → List (List (List Trit)) → List (List ℕ)
-inputs_along w clock faces [] = []
-inputs_along w clock faces (o ∷ os) = inputs_at w clock faces
-    ∷ inputs_along w (suc clock) (faces_after w clock o faces) os
+inputs_along = inputs_with []
 
--- the parts after these clocks
 abbrev pub faces_along : Wired → ℕ → List Face → List (List (List Trit)) → List Face
-faces_along w clock faces [] = faces
-faces_along w clock faces (o ∷ os) = faces_along w (suc clock) (faces_after w clock o faces) os
+faces_along = faces_with []
 
--- The loop from a clock on: the device runs along what the parts drive, and the parts move by what it shows.
-pub record IsLoop {S : Type 0} (Steps : S → List ℕ → List (List Trit) → S → Type 0) (w : Wired) (clock : ℕ)
-    (before : S) (faces : List Face) (shown : List (List (List Trit))) (after : S) (later : List Face) : Type 0 where
-  pub runs : RunsAlong Steps before (inputs_along w clock faces shown) shown after
-  pub parts : later ≡ faces_along w clock faces shown
+abbrev pub IsLoop : {S : Type 0} → (S → List ℕ → List (List Trit) → S → Type 0) → Wired → ℕ → S → List Face
+    → List (List (List Trit)) → S → List Face → Type 0
+IsLoop = IsSwappedLoop []

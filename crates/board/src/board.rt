@@ -6,13 +6,14 @@ ghost use Rattle.outside.specs.Outside.{HasCause};
 ghost use Rattle.transcript.specs.Running.{HasRoom};
 ghost use Rattle.board.specs.Boarding.{AreWires};
 ghost use Rattle.board.specs.Face.{Face};
-ghost use Rattle.board.specs.Loop.{inputs_from, is_settled};
+ghost use Rattle.board.specs.Loop.{inputs_from, is_settled, part_of, put_at};
 ghost use Rattle.board.specs.Printing.{PrintsClock, PrintsLoop};
 
 use crate::link::Link;
 use crate::moving::{give, show_settled};
 use crate::pads::any_reset;
 use crate::part::{NamedPart, Part};
+use crate::swapping::put;
 use mp_base::{List, NoMemory, Pads};
 use outside::{Failed, Sink};
 use std::alloc::Global;
@@ -164,6 +165,30 @@ impl<'a> Board<'a> {
         );
         self.done += 1;
         Ok(())
+    }
+
+    /// Drops the part of the link with this index, and puts another in its place, in its own state. The entry of the
+    /// list keeps its name.
+    pub fn swap(&mut self, parts: &mut Vec<NamedPart>, link: u32, fresh: Box<dyn Part>)
+        requires link { link < length self.old.wired.links }
+        requires part { part_of self.old.wired.links link < length parts.old.items }
+        ensures wired { self.new.wired ≡ self.old.wired }
+        ensures done { self.new.done ≡ self.old.done }
+        ensures names { map (λ p. string_bytes p.name) parts.new.items
+            ≡ map (λ p. string_bytes p.name) parts.old.items }
+        ensures faces { let faces = map (λ p. let f : Face = record {
+          state = state p.part;
+          drives = (⟦<dyn Part as Part>⟧ p.part.vtable).driven_in;
+          sees = (⟦<dyn Part as Part>⟧ p.part.vtable).after_seeing;
+        } in f) in
+            let own : Face = record {
+              state = state fresh;
+              drives = (⟦<dyn Part as Part>⟧ fresh.vtable).driven_in;
+              sees = (⟦<dyn Part as Part>⟧ fresh.vtable).after_seeing;
+            } in
+            faces parts.new.items ≡ put_at own (part_of self.old.wired.links link) (faces parts.old.items) }
+    {
+        put(&self.links, parts, link, fresh);
     }
 
     /// Runs some clocks. In each the inputs are given what the parts of their links drive, within their widths, and the

@@ -25,7 +25,7 @@ fn split(text: &str) -> Option<(&str, &str)>
 }
 
 // The fields between colons, where there are three.
-fn fields(word: &str) -> Option<(&str, &str, &str)>
+pub(crate) fn fields(word: &str) -> Option<(&str, &str, &str)>
     ensures { MatchOption result (¬ IsThree (slice_split (λ c. c == 58) word.now))
         (λ f. slice_split (λ c. c == 58) word.now ≡ f.0.now ∷ f.1.now ∷ f.2.now ∷ []) }
 {
@@ -54,7 +54,7 @@ fn is_pad(pad: &Pad, name: &str) -> bool
 }
 
 // The place of the first part of a name.
-fn part_named(parts: &[NamedPart], name: &str) -> Option<u32>
+pub(crate) fn part_named(parts: &[NamedPart], name: &str) -> Option<u32>
     requires { length parts.now < 2 ^ 32 }
     ensures { result ≡ place_of (map (λ p. string_bytes p.name) parts.now) name.now }
 {
@@ -117,7 +117,7 @@ fn naming(word: &str, parts: &[NamedPart], pads: &Pads) -> Naming
     }
 }
 
-fn rule(number: u16) -> Rule
+pub(crate) fn rule(number: u16) -> Rule
     ensures { result ≡ rule_b number }
 {
     Rule {
@@ -127,7 +127,7 @@ fn rule(number: u16) -> Rule
 }
 
 // Whether a link has this part.
-fn has_part(links: &[Link], part: u32) -> bool
+pub(crate) fn has_part(links: &[Link], part: u32) -> bool
     ensures { MatchBool result (Any (λ (l : LinkValue). l.part ≡ part) links.now)
         (¬ Any (λ (l : LinkValue). l.part ≡ part) links.now) }
 {
@@ -190,7 +190,7 @@ fn judge(named: Naming, earlier: &[Link]) -> Result<Link, Rule>
     }
 }
 
-fn broken(alloc: Global, rule: Rule, word: &str) -> Result<Broken, AllocError>
+pub(crate) fn broken(alloc: Global, rule: Rule, word: &str) -> Result<Broken, AllocError>
     ensures { IfOk result (λ b. (b.rule ≡ rule) × (b.spot ≡ Named word.now)) }
 {
     Ok(Broken {
@@ -200,7 +200,7 @@ fn broken(alloc: Global, rule: Rule, word: &str) -> Result<Broken, AllocError>
 }
 
 // The link that a word stands for behind some links, or the rule that it breaks, at the word.
-fn read_link(
+pub(crate) fn read_link(
     alloc: Global,
     word: &str,
     parts: &[NamedPart],
