@@ -1,7 +1,10 @@
 //! An output of the system.
 
-ghost use Rattle.std.specs.Prelude.{◌≡◌, None, ◌<◌, ◌≤◌};
-ghost use Rattle.outside.specs.Outside.{HasCause};
+ghost use Rattle.std.specs.Prelude.{◌≡◌, ◌<◌, ◌≤◌, None, OnOk, IfOk, take};
+ghost use Rattle.std.specs.Io.KnownBytes.{Appends, Keeps};
+ghost use Rattle.outside.specs.Outside.{HasCause, Gains};
+ghost use Rattle.outside.specs.Piece.{TakesPiece};
+ghost use Rattle.system_outside.specs.Told.{told_over};
 
 use outside::{Failed, Sink};
 use std::io::Write;
@@ -9,7 +12,7 @@ use std::io::Write;
 const ROOM: usize = 4096;
 
 /// An output over any writer, to which full rooms are given, and the rest at the end: a call of the system for each
-/// line would cost more than the line.
+/// line would cost more than the line. While no call has failed it tells what the writer tells, and what the room holds.
 #[derive(Drop)]
 pub struct OutSink<W> {
     inner: W,
@@ -22,7 +25,8 @@ pub struct OutSink<W> {
 impl<W: Write> OutSink<W> {
     /// The writer, to which nothing was given yet.
     pub fn new(inner: W) -> Self
-        ensures { result.faults ≡ 0 }
+        ensures faults { result.faults ≡ 0 }
+        ensures told { told_over (W.contents result.inner) result.room result.used result.faults ≡ W.contents inner }
     {
         OutSink {
             inner,
@@ -35,7 +39,10 @@ impl<W: Write> OutSink<W> {
     // Gives out the first bytes of the room, which is then free.
     fn give_out(&mut self, size: usize) -> Result<(), Failed>
         requires { size ≤ 4096 }
-        ensures { HasCause self.old.faults self.new.faults result }
+        ensures cause { HasCause self.old.faults self.new.faults result }
+        ensures used { self.new.used ≡ 0 }
+        ensures given { OnOk result
+            (Appends (W.contents self.old.inner) (W.contents self.new.inner) (take size self.old.room)) }
     {
         self.used = 0;
         match self.inner.write_all(&self.room[..size]) {
@@ -47,9 +54,12 @@ impl<W: Write> OutSink<W> {
         }
     }
 
-    /// Gives out what was kept back.
+    /// Gives out what was kept back: the writer then holds what was told.
     pub fn flush(&mut self) -> Result<(), Failed>
-        ensures { HasCause self.old.faults self.new.faults result }
+        ensures cause { HasCause self.old.faults self.new.faults result }
+        ensures given { OnOk result
+            (Keeps (told_over (W.contents self.old.inner) self.old.room self.old.used self.old.faults)
+            (W.contents self.new.inner)) }
     {
         self.give_out(self.used)
     }
@@ -60,7 +70,13 @@ impl<W: Write> Sink for OutSink<W> {
 
     ghost faults = { λ s. s.faults };
 
-    fn write(&mut self, bytes: &[u8]) -> Result<usize, Failed> {
+    fn write(&mut self, bytes: &[u8]) -> Result<usize, Failed>
+        ensures taken { TakesPiece Gains None None bytes.now result }
+        ensures cause { HasCause self.old.faults self.new.faults result }
+        ensures told { IfOk result (λ n.
+            Appends (told_over (W.contents self.old.inner) self.old.room self.old.used self.old.faults)
+            (told_over (W.contents self.new.inner) self.new.room self.new.used self.new.faults) (take n bytes.now)) }
+    {
         let used = self.used;
         let count = bytes.len().min(ROOM - used);
         let end = used + count;

@@ -13,6 +13,7 @@ use Rattle.board_command.specs.Parts.{Lent}
 use Rattle.silicon.specs.Complete.{IsRun}
 use Rattle.silicon.specs.Faults.{IsStrayFor, target_for}
 use Rattle.silicon.specs.Run.{IsForWords, Did, EndsMade, TellsUsage}
+use Rattle.system_run.specs.Words.{command_given}
 use Rattle.system_run.specs.Parts.{own_parts, counter, shifter, echo, memory, RunsWithParts}
 
 -- four entries that were pushed one after another
@@ -62,16 +63,19 @@ form_of_fault : (words : Option Command) → IsForWords words WriteFault
 form_of_fault None = tt
 form_of_fault (Some command) = tt
 
--- want of memory and a failed output say nothing of words
-pub any_wanting : {T E : Type 0} (given : Result T E) (words : T → Option Command)
-    → MatchResult given (λ x. IsForWords (words x) NoMemory) (λ e. IsForWords None NoMemory)
-any_wanting (Ok x) words = form_of_none (words x)
-any_wanting (Err e) words = tt
+-- what is so of the command of words that are given is so of them
+pub for_given : {T E : Type 0} (given : Result T E) (words : T → Option Command) (status : Status)
+    → IsForWords (command_given words given) status
+    → MatchResult given (λ x. IsForWords (words x) status) (λ e. IsForWords None status)
+for_given (Ok x) words status h = h
+for_given (Err e) words status h = h
 
-pub any_failing : {T E : Type 0} (given : Result T E) (words : T → Option Command)
-    → MatchResult given (λ x. IsForWords (words x) WriteFault) (λ e. IsForWords None WriteFault)
-any_failing (Ok x) words = form_of_fault (words x)
-any_failing (Err e) words = tt
+-- a failed output says nothing of words
+pub ended_for : {T E : Type 0} (flushed : Result T E) (words : Option Command) (status last : Status)
+    → MatchResult flushed (λ x. last ≡ status) (λ e. last ≡ WriteFault) → IsForWords words status
+    → IsForWords words last
+ended_for (Ok x) words status last is h = subst (IsForWords words) (sym is) h
+ended_for (Err e) words status last is h = subst (IsForWords words) (sym is) (form_of_fault words)
 
 made_of_none : (words : Option Command) → EndsMade words NoMemory
 made_of_none None = tt

@@ -1,2 +1,3 @@
 pub mod Parts
 pub mod Statuses
+pub mod Words

@@ -8,7 +8,9 @@ ghost use Rattle.outcome.specs.World.{world_of};
 ghost use Rattle.board.specs.Face.{Face};
 ghost use Rattle.silicon.specs.Run.{IsForWords};
 ghost use Rattle.system_run.specs.Parts.{RunsWithParts};
+ghost use Rattle.outcome.specs.declared.status.Status.TheVariants.{WriteFault};
 ghost use Rattle.system_run.specs.Statuses.{exit_status};
+ghost use Rattle.system_run.specs.Words.{command_given};
 
 use board_parts::{Counter, Echo, Memory, Shifter};
 use outside::{Depot, Failed, Sink};
@@ -120,9 +122,36 @@ pub fn run_with_parts<D: Depot, O: Sink>(
     }
 }
 
-/// Does what the words behind the program's name say, with these files, this output, and the parts that a chip may be
-/// joined to. Words that can't be had for want of memory end as any want of memory. What the system's files and output
-/// hold isn't told, so this says only when words are in no form.
+/// Does what the words behind the program's name say, with the parts that a chip may be joined to. Words that can't be
+/// had for want of memory end as any want of memory.
+pub fn run_given<D: Depot, O: Sink>(
+    alloc: Global,
+    args: io::Result<Args>,
+    depot: &mut D,
+    out: &mut O,
+) -> Status
+    ensures { let world = world_of D.held D.read_faults D.write_faults O.held O.faults in
+        RunsWithParts (command_given (λ given. command_of (drop 1 (into_iter_items given))) args) result
+        (world depot.old out.old) (world depot.new out.new) }
+{
+    match words_of(alloc, args) {
+        Ok(words) => run_with_parts(alloc, &words, depot, out),
+        Err(AllocError) => Status::NoMemory,
+    }
+}
+
+/// How a run ends whose output was flushed behind it: as it ended, or with a write fault if that failed.
+pub fn ended(status: Status, flushed: Result<(), Failed>) -> Status
+    ensures { MatchResult flushed (λ _. result ≡ status) (λ _. result ≡ WriteFault) }
+{
+    match flushed {
+        Ok(()) => status,
+        Err(Failed) => Status::WriteFault,
+    }
+}
+
+/// `run_given` with these files and this output, which is then flushed. What the system's files and output hold isn't
+/// told, so this says only when words are in no form.
 pub fn perform<R: Files, W: Write + Drop>(
     alloc: Global,
     files: &R,
@@ -132,17 +161,10 @@ pub fn perform<R: Files, W: Write + Drop>(
     ensures { MatchResult args (λ given. IsForWords (command_of (drop 1 (into_iter_items given))) result)
         (λ _. IsForWords None result) }
 {
-    let words = match words_of(alloc, args) {
-        Ok(words) => words,
-        Err(AllocError) => return Status::NoMemory,
-    };
     let mut depot = FileDepot::new(files);
     let mut out = OutSink::new(output);
-    let status = run_with_parts(alloc, &words, &mut depot, &mut out);
-    match out.flush() {
-        Ok(()) => status,
-        Err(Failed) => Status::WriteFault,
-    }
+    let status = run_given(alloc, args, &mut depot, &mut out);
+    ended(status, out.flush())
 }
 
 /// The exit status that tells how a run ended.
