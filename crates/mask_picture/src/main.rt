@@ -52,6 +52,7 @@ fn letter(family: Family) -> &'static str {
         Family::N => "N",
         Family::B => "B",
         Family::L => "L",
+        Family::P => "P",
     }
 }
 

@@ -45,9 +45,9 @@ unit_count f = longer_side f / (40 * grain f) + 1
 abbrev pub unit : Frame → ℕ
 unit f = unit_count f * grain f
 
--- room for two units around the drawing, for 42 units of the key, and for six units below
+-- room for two units around the drawing, for 18 units of the key, and for nine units below
 abbrev pub picture_width : Frame → ℕ
-picture_width f = max (width f) (42 * unit f) + 4 * unit f
+picture_width f = max (width f) (18 * unit f) + 4 * unit f
 
 abbrev pub picture_height : Frame → ℕ
-picture_height f = height f + 8 * unit f
+picture_height f = height f + 11 * unit f

@@ -27,10 +27,15 @@ letters_style =
 abbrev pub implant_edge : List ℕ
 implant_edge = codes "path.NI{stroke:#8a6a00;stroke-dasharray:1 3;vector-effect:non-scaling-stroke}"
 
+-- the ground is white, also on a dark page
+abbrev pub ground : List ℕ
+ground =
+    codes ".ground{fill:#fff;fill-opacity:1}</style>\n" ++ codes "<rect class='ground' width='100%' height='100%'/>\n"
+
 abbrev pub style_text : List ℕ
 style_text =
     codes "<style>" ++ letters_style ++ codes "path,rect{fill-opacity:.6}" ++ coloured ND ++ coloured NP ++ coloured NC
-    ++ coloured NM ++ coloured NI ++ implant_edge ++ coloured NB ++ coloured NG ++ codes "</style>\n"
+    ++ coloured NM ++ coloured NI ++ implant_edge ++ coloured NB ++ coloured NG ++ ground
 
 -- what stands before the size of the picture
 abbrev pub view_front : List ℕ
@@ -50,17 +55,27 @@ usual_name NI = codes "implant"
 usual_name NB = codes "buried"
 usual_name NG = codes "glass"
 
--- a square of the layer at x, in units, and its name at z
-abbrev pub key_entry : (x z : List ℕ) → Layer → List ℕ
-key_entry x z l =
-    codes "<rect class='" ++ layer_name l ++ codes "' x='" ++ x
-    ++ codes "' y='1.5' width='1' height='1'/><text x='" ++ z ++ codes "' y='2.4'>" ++ usual_name l
+-- a square of the layer at x and y, in units, and its name behind it
+abbrev pub key_entry : (x y name_x name_y : List ℕ) → Layer → List ℕ
+key_entry x y name_x name_y l =
+    codes "<rect class='" ++ layer_name l ++ codes "' x='" ++ x ++ codes "' y='" ++ y
+    ++ codes "' width='1' height='1'/><text x='" ++ name_x ++ codes "' y='" ++ name_y ++ codes "'>" ++ usual_name l
     ++ codes "</text>\n"
 
--- the layers side by side, and below them the bar of the scale, ten units long
+-- the first, second and third entry of a row
+abbrev pub first_entry : (y name_y : List ℕ) → Layer → List ℕ
+first_entry y name_y l = key_entry (codes "0") y (codes "1.4") name_y l
+
+abbrev pub second_entry : (y name_y : List ℕ) → Layer → List ℕ
+second_entry y name_y l = key_entry (codes "6") y (codes "7.4") name_y l
+
+abbrev pub third_entry : (y name_y : List ℕ) → Layer → List ℕ
+third_entry y name_y l = key_entry (codes "12") y (codes "13.4") name_y l
+
+-- the layers in three rows, and below them the bar of the scale, ten units long
 abbrev pub entries_text : List ℕ
 entries_text =
-    key_entry (codes "0") (codes "1.4") ND ++ key_entry (codes "6") (codes "7.4") NP
-    ++ key_entry (codes "12") (codes "13.4") NM ++ key_entry (codes "18") (codes "19.4") NC
-    ++ key_entry (codes "24") (codes "25.4") NI ++ key_entry (codes "30") (codes "31.4") NB
-    ++ key_entry (codes "36") (codes "37.4") NG ++ codes "<rect x='0' y='4.4' width='10' height='.3'/>\n"
+    first_entry (codes "1.5") (codes "2.4") ND ++ second_entry (codes "1.5") (codes "2.4") NP
+    ++ third_entry (codes "1.5") (codes "2.4") NM ++ first_entry (codes "3") (codes "3.9") NC
+    ++ second_entry (codes "3") (codes "3.9") NI ++ third_entry (codes "3") (codes "3.9") NB
+    ++ first_entry (codes "4.5") (codes "5.4") NG ++ codes "<rect x='0' y='6.9' width='10' height='.3'/>\n"

@@ -127,7 +127,7 @@ key_place_text f = key_corner_text f ++ key_size_text f
 -- what the bar of the scale is long: ten units
 unfoldable pub scale_text : Frame → List ℕ
 scale_text f =
-    tagged (codes "<text x='11' y='5'>") (pos (10 * unit_count f)) ++ grain_name f ++ codes "</text>\n</g>\n"
+    tagged (codes "<text x='11' y='7.5'>") (pos (10 * unit_count f)) ++ grain_name f ++ codes "</text>\n</g>\n"
 
 -- the key of the layers, and a scale of ten units, below the drawing
 unfoldable pub key_text : Frame → List ℕ

@@ -103,12 +103,12 @@ impl Frame {
         ensures { result ≡ picture_width self }
     {
         let unit = self.unit() as u128;
-        (self.width() as u128).max(42 * unit) + 4 * unit
+        (self.width() as u128).max(18 * unit) + 4 * unit
     }
 
     pub fn picture_height(self) -> u128
         ensures { result ≡ picture_height self }
     {
-        self.height() as u128 + 8 * self.unit() as u128
+        self.height() as u128 + 11 * self.unit() as u128
     }
 }

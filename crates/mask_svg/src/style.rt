@@ -3,7 +3,7 @@
 ghost use Rattle.std.specs.Prelude.{◌≡◌};
 ghost use Rattle.mask_svg.specs.Looks.{entries_text, key_front, style_text, view_front};
 
-/// The colours of the layers, of which what lies below shows through, and letters with a bright edge.
+/// The colours of the layers, of which what lies below shows through, letters with a bright edge, and a white ground.
 pub(crate) fn style() -> &'static [u8]
     ensures { result.now ≡ style_text }
 {
@@ -12,7 +12,8 @@ text{font-family:sans-serif;paint-order:stroke;stroke:#fff;stroke-width:.2em;str
 path,rect{fill-opacity:.6}\
 .ND{fill:#2e9e4f}.NP{fill:#d93636}.NC{fill:#000;fill-opacity:1}.NM{fill:#3a6fd8;fill-opacity:.45}\
 .NI{fill:#f2c500;fill-opacity:.35}path.NI{stroke:#8a6a00;stroke-dasharray:1 3;vector-effect:non-scaling-stroke}\
-.NB{fill:#7a4a21}.NG{fill:#999;fill-opacity:.35}</style>\n"
+.NB{fill:#7a4a21}.NG{fill:#999;fill-opacity:.35}.ground{fill:#fff;fill-opacity:1}</style>\n\
+<rect class='ground' width='100%' height='100%'/>\n"
 }
 
 /// What stands before the size of the picture.
@@ -36,9 +37,9 @@ pub(crate) fn key_entries() -> &'static [u8]
     b"<rect class='ND' x='0' y='1.5' width='1' height='1'/><text x='1.4' y='2.4'>diffusion</text>\n\
 <rect class='NP' x='6' y='1.5' width='1' height='1'/><text x='7.4' y='2.4'>polysilicon</text>\n\
 <rect class='NM' x='12' y='1.5' width='1' height='1'/><text x='13.4' y='2.4'>metal</text>\n\
-<rect class='NC' x='18' y='1.5' width='1' height='1'/><text x='19.4' y='2.4'>contact</text>\n\
-<rect class='NI' x='24' y='1.5' width='1' height='1'/><text x='25.4' y='2.4'>implant</text>\n\
-<rect class='NB' x='30' y='1.5' width='1' height='1'/><text x='31.4' y='2.4'>buried</text>\n\
-<rect class='NG' x='36' y='1.5' width='1' height='1'/><text x='37.4' y='2.4'>glass</text>\n\
-<rect x='0' y='4.4' width='10' height='.3'/>\n"
+<rect class='NC' x='0' y='3' width='1' height='1'/><text x='1.4' y='3.9'>contact</text>\n\
+<rect class='NI' x='6' y='3' width='1' height='1'/><text x='7.4' y='3.9'>implant</text>\n\
+<rect class='NB' x='12' y='3' width='1' height='1'/><text x='13.4' y='3.9'>buried</text>\n\
+<rect class='NG' x='0' y='4.5' width='1' height='1'/><text x='1.4' y='5.4'>glass</text>\n\
+<rect x='0' y='6.9' width='10' height='.3'/>\n"
 }

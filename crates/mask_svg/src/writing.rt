@@ -269,7 +269,7 @@ fn push_scale(text: &mut Vec<u8>, frame: Frame) -> Result<(), AllocError>
     ensures { OnOk result (text.new.items ≡ text.old.items ++ scale_text frame) }
 {
     let count = 10 * frame.unit_count() as u128;
-    push_count(text, b"<text x='11' y='5'>", count)?;
+    push_count(text, b"<text x='11' y='7.5'>", count)?;
     text.extend_from_slice(grain_name(frame))?;
     text.extend_from_slice(b"</text>\n</g>\n")
 }

@@ -9,10 +9,10 @@ unfolding scale_text
 returns c =
     let old = c.args.text.now.items in
     let frame = c.args.frame in
-    let length = tagged (codes "<text x='11' y='5'>") (pos (10 * unit_count frame)) in
+    let length = tagged (codes "<text x='11' y='7.5'>") (pos (10 * unit_count frame)) in
     ended c.extend_from_slice-2.result old (length ++ grain_name frame) (codes "</text>\n</g>\n")
     (more old length (grain_name frame)
-    (c.in_ok-push_count.ensures ∙ ap (λ n. old ++ tagged (codes "<text x='11' y='5'>") (pos (10 * n)))
+    (c.in_ok-push_count.ensures ∙ ap (λ n. old ++ tagged (codes "<text x='11' y='7.5'>") (pos (10 * n)))
     c.unit_count.ensures.value)
     (c.in_ok-extend_from_slice.ensures.items ∙ ap (λ t. c.push_count.new.text.items ++ t) c.grain_name.ensures))
     c.extend_from_slice-2.ensures.items
