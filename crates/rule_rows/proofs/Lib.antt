@@ -1,0 +1,14 @@
+mod Alones
+mod Besides
+mod Bounds
+mod Columns
+mod Deep
+mod Leading
+mod Leasts
+mod Nearing
+mod Opening
+mod Opens
+mod Planning
+mod Results
+mod Spreading
+mod Stretching

@@ -1,0 +1,7 @@
+pub mod Firsts
+pub mod Sides
+pub mod Copies
+pub mod Channels
+pub mod Gaps
+pub mod Gates
+pub mod Nears

@@ -1,0 +1,9 @@
+pub mod Areas
+pub mod Bare
+pub mod Growing
+pub mod Narrow
+pub mod Regions
+pub mod Flags
+pub mod Listing
+pub mod Pairs
+pub mod Gaps
