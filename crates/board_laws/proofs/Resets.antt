@@ -39,7 +39,7 @@ use Rattle.mp_rules.specs.Breaking.{IsUnbroken}
 use Rattle.board.specs.declared.link.Link.{Link}
 use Rattle.board.specs.Face.{Face}
 use Rattle.board.specs.Loop as loop
-use Rattle.board.specs.Loop.{Wired, given_by, inputs_along, inputs_at, inputs_from, is_settled, link_to}
+use Rattle.board.specs.Loop.{Wired, Exchange, given_by, inputs_at, inputs_from, inputs_with, is_settled, link_to, made}
 use Rattle.board.specs.Boarding.{IsWire}
 use Rattle.board_laws.specs.Laws.{IsBoardOf}
 
@@ -215,19 +215,22 @@ module _ (p : Program) (w : Wired) (unbroken : IsUnbroken p) (board : IsBoardOf 
   later : (k : ℕ) → (not true || (nat_lt 0 k && list_any loop.is_reset (w.pads).inputs)) ≡ true → 0 < k
   later k h = ltb-true 0 k (and_parts (nat_lt 0 k) (list_any loop.is_reset (w.pads).inputs) h).0
 
-  -- a clock that is settled for the board is so for the program
-  pub settles : (faces : List Face) (shown : List (List (List Trit))) (k : ℕ) → k < length shown
-      → is_settled w k ≡ true → IsSettled p (inputs_along w 0 faces shown) k
-  settles faces shown k lt is = elim (cases_Bool (stores p)) [
+  -- a clock that is settled for the board is so for the program, also with swaps
+  pub settles : (swaps : List Exchange) (faces : List Face) (shown : List (List (List Trit))) (k : ℕ) → k < length shown
+      → is_settled w k ≡ true → IsSettled p (inputs_with swaps w 0 faces shown) k
+  settles swaps faces shown k lt is = elim (cases_Bool (stores p)) [
     | inr none ↦ inl none
     | inl some ↦
         let stores_it : w.stores ≡ true = board.stores ∙ some in
         let late = later k (ap (λ b. not b || (nat_lt 0 k && list_any loop.is_reset (w.pads).inputs)) (sym stores_it)
         ∙ is) in
-        inr (0, late, first shown lt (resets_first some faces))
+        inr (0, late, first shown lt (resets_first some now))
   ]
     where
-      first : (os : List (List (List Trit))) → k < length os → resets p.defs (inputs_at w 0 faces) ≡ true
-          → resets p.defs (slice_index_or (inputs_along w 0 faces os) 0 []) ≡ true
+      now : List Face
+      now = made w.links swaps 0 faces
+
+      first : (os : List (List (List Trit))) → k < length os → resets p.defs (inputs_at w 0 now) ≡ true
+          → resets p.defs (slice_index_or (inputs_with swaps w 0 faces os) 0 []) ≡ true
       first [] less h = absurd (omega (arith, less))
       first (o ∷ os) less h = h

@@ -17,7 +17,7 @@ use Rattle.transcript.specs.Transcript.{RunsAlong}
 use Rattle.sim_run.specs.Transcript.{NetworkSteps}
 use Rattle.trace_run.specs.Transcript.{ProgramSteps}
 use Rattle.board.specs.Face.{Face}
-use Rattle.board.specs.Loop.{Wired, is_settled, faces_after, inputs_along}
+use Rattle.board.specs.Loop.{Wired, Exchange, is_settled, faces_after, made, inputs_with}
 use Rattle.board.specs.Laws.{AgreeWhereSettled}
 
 pub circuit_runs : (net : Network) (pads : Pads) (s t : Running) (inputs : List (List ℕ))
@@ -46,11 +46,12 @@ program_runs p pads st (i ∷ is) (o ∷ os) t =
     let r = program_runs p pads t.0 is os t.2 in
     (r.0, (t.0, record { outputs = o; clock = t.1; bits = refl }, r.1))
 
-pub along_many : (w : Wired) (clock : ℕ) (faces : List Face) (shown : List (List (List Trit)))
-    → length (inputs_along w clock faces shown) ≡ length shown
-along_many w clock faces [] = refl
-along_many w clock faces (o ∷ os) =
-    let e = along_many w (suc clock) (faces_after w clock o faces) os in omega (arith, e)
+pub along_many : (swaps : List Exchange) (w : Wired) (clock : ℕ) (faces : List Face) (shown : List (List (List Trit)))
+    → length (inputs_with swaps w clock faces shown) ≡ length shown
+along_many swaps w clock faces [] = refl
+along_many swaps w clock faces (o ∷ os) =
+    let now = made w.links swaps clock faces in
+    let e = along_many swaps w (suc clock) (faces_after w clock o now) os in omega (arith, e)
 
 -- lists that are the same at each settled clock agree
 pub agree_at : (w : Wired) (clock : ℕ) (shown : List (List (List Trit))) (outputs : List (List ℕ))

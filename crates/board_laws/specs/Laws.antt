@@ -16,7 +16,7 @@ use Rattle.clock_run.specs.Device.{CircuitSteps}
 use Rattle.sim_run.specs.Transcript.{NetworkSteps}
 use Rattle.trace_run.specs.Transcript.{ProgramSteps}
 use Rattle.board.specs.Face.{Face}
-use Rattle.board.specs.Loop.{Wired, IsLoop}
+use Rattle.board.specs.Loop.{Wired, Exchange, IsLoop, IsSwappedLoop}
 use Rattle.board.specs.Boarding.{AreWires}
 use Rattle.board.specs.Laws.{AgreeWhereSettled}
 
@@ -26,6 +26,15 @@ CircuitsLoop =
     (w : Wired) (clock : ℕ) (before after : Running) (faces later : List Face) (shown : List (List (List Trit)))
     → before.pads ≡ w.pads → IsLoop CircuitSteps w clock before faces shown after later
     → IsLoop (NetworkSteps before.network w.pads) w clock (value_at before.values) faces shown
+    (value_at after.values) later
+
+-- the same with swaps
+abbrev pub SwappedCircuitsLoop : Type 0
+SwappedCircuitsLoop =
+    (swaps : List Exchange) (w : Wired) (clock : ℕ) (before after : Running) (faces later : List Face)
+    (shown : List (List (List Trit))) → before.pads ≡ w.pads
+    → IsSwappedLoop swaps CircuitSteps w clock before faces shown after later
+    → IsSwappedLoop swaps (NetworkSteps before.network w.pads) w clock (value_at before.values) faces shown
     (value_at after.values) later
 
 -- the board has the pads of a program, and knows whether it stores anything
@@ -44,4 +53,15 @@ ChipsLoop =
     → IsLoop (NetworkSteps net w.pads) w 0 (λ node. X) faces shown after later
     → (told : List (List (List Trit))) × (end : State)
     × IsLoop (ProgramSteps p (w.pads).outputs) w 0 (zero_state p) faces told end later
+    × AgreeWhereSettled w 0 shown told
+
+-- The same with swaps, which both loops make.
+abbrev pub SwappedChipsLoop : Type 0
+SwappedChipsLoop =
+    (swaps : List Exchange) (p : Program) (net : Network) (w : Wired) (faces later : List Face)
+    (shown : List (List (List Trit))) (after : ℕ → Trit) → IsUnbroken p → IsBoardOf p w
+    → ((inputs : List (List ℕ)) → All (Fit (w.pads).inputs) inputs → Follows p w.pads net inputs)
+    → IsSwappedLoop swaps (NetworkSteps net w.pads) w 0 (λ node. X) faces shown after later
+    → (told : List (List (List Trit))) × (end : State)
+    × IsSwappedLoop swaps (ProgramSteps p (w.pads).outputs) w 0 (zero_state p) faces told end later
     × AgreeWhereSettled w 0 shown told

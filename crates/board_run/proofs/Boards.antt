@@ -1,6 +1,6 @@
 -- The run of a circuit on a board, from its clocks and its last line.
-use Rattle.std.proofs.Common.{◌≡◌, ◌∙◌, ℕ, suc, ◌+◌, ◌-◌, ◌<◌, ◌≤◌, List, ◌∷◌, ◌++◌, append_assoc, Bool, Option}
-use Rattle.std.proofs.Common.{Result, Ok, Err, length, take, refl, sym, ap, subst, arith}
+use Rattle.std.proofs.Common.{◌≡◌, ◌∙◌, ℕ, suc, ◌+◌, ◌-◌, ◌<◌, ◌≤◌, List, [], ◌∷◌, ◌++◌, append_assoc, Bool}
+use Rattle.std.proofs.Common.{Option, Result, Ok, Err, length, take, refl, sym, ap, subst, arith}
 use Rattle.std.specs.Prelude.{OnOk, OnErr}
 use Rattle.std.proofs.lemmas.List.{length-append, take_all, take-append-le}
 use Rattle.std.proofs.Math.Seq.{take-append-add}
@@ -26,19 +26,19 @@ use Rattle.sim_run.specs.Transcript.{NetworkSteps}
 use Rattle.sim_run.proofs.Transcripts.{can_step, steps_on}
 use Rattle.board.specs.Boarding.{Boarding}
 use Rattle.board.specs.Face.{Face}
-use Rattle.board.specs.Loop.{Wired, IsLoop, faces_after, faces_along, inputs_at}
-use Rattle.board.specs.Printing.{PrintsLoop}
+use Rattle.board.specs.Loop.{Wired, Exchange, IsSwappedLoop, faces_after, faces_with, inputs_at}
+use Rattle.board.specs.Printing.{PrintsLoop, PrintsLoopWith}
 use Rattle.board.specs.Laws.{InputsFit}
-use Rattle.board.proofs.JoinedLoops.{loop_then, more}
-use Rattle.board_laws.specs.Laws.{CircuitsLoop}
-use Rattle.board_run.specs.Boarded.{PrintsBoard, whole_lines}
-use Rattle.board_run.specs.Laws.{BoardsRun}
+use Rattle.board.proofs.SwappedLoops.{IsLoopOn, loop_then, more}
+use Rattle.board_laws.specs.Laws.{SwappedCircuitsLoop}
+use Rattle.board_run.specs.Boarded.{PrintsBoardWith, whole_lines}
+use Rattle.board_run.specs.Laws.{BoardsRun, SwappedBoardsRun}
 use Rattle.board_run.specs.Standing.{Standing, IsReady}
 use Rattle.board_run.proofs.Feeds.{lines_of_two, lines_counted, no_line}
 
-pub boards_run : InputsFit → TraceExists → BoardsRun
-boards_run fits exist net w clocks faces has =
-    let all = more (NetworkSteps net w.pads) w fits (steps_on net w.pads exist has) clocks 0 (λ node. X) faces
+pub swapped_boards_run : InputsFit → TraceExists → SwappedBoardsRun
+swapped_boards_run fits exist swaps net w clocks faces has =
+    let all = more swaps (NetworkSteps net w.pads) w fits (steps_on net w.pads exist has) clocks 0 (λ node. X) faces
     (can_step net w.pads exist has (λ node. X)) in (
       lines_text 0 (w.pads).outputs all.shown ++ last_line net all.after,
       record {
@@ -51,6 +51,9 @@ boards_run fits exist net w clocks faces has =
       },
     )
 
+pub boards_run : InputsFit → TraceExists → BoardsRun
+boards_run fits exist = swapped_boards_run fits exist []
+
 -- the network and the pads stay the same
 kept : (before after : Running) (is : List (List ℕ)) (shown : List (List (List Trit)))
     → RunsAlong CircuitSteps before is shown after
@@ -60,11 +63,11 @@ kept before after is shown runs =
     (λ s t i o same step. (step.network ∙ same.0, step.pads ∙ same.1)) before after is shown (refl, refl) runs
 
 -- the network after all clocks were run
-network_after : {T E : Type 0} (w : Wired) (done clocks : ℕ) (before after : Running) (faces later : List Face)
-    (x y : Option (List ℕ)) (u : T)
-    → PrintsLoop {T = T} {E = E} CircuitSteps w 0 done clocks before after faces later x y (Ok u)
+network_after : {T E : Type 0} (swaps : List Exchange) (w : Wired) (done clocks : ℕ) (before after : Running)
+    (faces later : List Face) (x y : Option (List ℕ)) (u : T)
+    → PrintsLoopWith swaps {T = T} {E = E} CircuitSteps w 0 done clocks before after faces later x y (Ok u)
     → after.network ≡ before.network
-network_after w done clocks before after faces later x y u p =
+network_after swaps w done clocks before after faces later x y u p =
     ap (λ (s : Running). s.network) p.whole.1 ∙ (kept before p.end _ p.shown ((p.looped).loop).runs).0
 
 -- a step of a circuit is one of its network
@@ -80,8 +83,8 @@ circuit_step net pads s t i o same own step =
 taken_within : (n : ℕ) (a b c : List ℕ) → n ≤ length b → take (length a + n) (a ++ (b ++ c)) ≡ a ++ take n b
 taken_within n a b c le = take-append-add a (b ++ c) n ∙ ap (λ t. a ++ t) (take-append-le n b c le)
 
-module _ (fits : InputsFit) (circuits : CircuitsLoop) (exist : TraceExists) (w : Wired) (before : Running)
-    (own : before.pads ≡ w.pads)
+module _ (fits : InputsFit) (circuits : SwappedCircuitsLoop) (exist : TraceExists) (swaps : List Exchange) (w : Wired)
+    (before : Running) (own : before.pads ≡ w.pads)
     (has : HasPads before.network w.pads) (unknown : value_at before.values ≡ (λ node. X)) where
   abbrev net : Network
   net = before.network
@@ -91,25 +94,25 @@ module _ (fits : InputsFit) (circuits : CircuitsLoop) (exist : TraceExists) (w :
 
   -- the loop of the circuit is one of its network, from all values X
   network_loop : (faces later : List Face) (shown : List (List (List Trit))) (end : Running)
-      → IsLoop CircuitSteps w 0 before faces shown end later
-      → IsLoop Steps w 0 (λ node. X) faces shown (value_at end.values) later
+      → IsSwappedLoop swaps CircuitSteps w 0 before faces shown end later
+      → IsSwappedLoop swaps Steps w 0 (λ node. X) faces shown (value_at end.values) later
   network_loop faces later shown end loop =
-      let P : (ℕ → Trit) → Type 0 = λ v. IsLoop Steps w 0 v faces shown (value_at end.values) later in
-      subst P unknown (circuits w 0 before end faces later shown own loop)
+      let P : (ℕ → Trit) → Type 0 = λ v. IsSwappedLoop swaps Steps w 0 v faces shown (value_at end.values) later in
+      subst P unknown (circuits swaps w 0 before end faces later shown own loop)
 
   -- so many lines were printed whole: the parts are as after so many clocks
   parts_after : (faces later : List Face) (os us : List (List (List Trit))) (n : ℕ) → n ≡ length os
-      → later ≡ faces_along w 0 faces os → later ≡ faces_along w 0 faces (take n (os ++ us))
+      → later ≡ faces_with swaps w 0 faces os → later ≡ faces_with swaps w 0 faces (take n (os ++ us))
   parts_after faces later os us n is parts =
       let e : take n (os ++ us) ≡ os =
       take-append-le n os us (omega (arith, is)) ∙ take_all n os (omega (arith, is)) in
-      parts ∙ sym (ap (faces_along w 0 faces) e)
+      parts ∙ sym (ap (faces_with swaps w 0 faces) e)
 
   module _ {T E : Type 0} (done clocks : ℕ) (after : Running) (faces later : List Face) (x y : Option (List ℕ)) where
     -- a line was cut short
     cut_in_lines : (e f : E) (r : Result T E) → r ≡ Err f
-        → PrintsLoop {T = T} {E = E} CircuitSteps w 0 done clocks before after faces later x y (Err e)
-        → PrintsBoard {T = T} {E = E} net w clocks faces later x y r
+        → PrintsLoopWith swaps {T = T} {E = E} CircuitSteps w 0 done clocks before after faces later x y (Err e)
+        → PrintsBoardWith swaps {T = T} {E = E} net w clocks faces later x y r
     cut_in_lines e f r is p =
         let outs = (w.pads).outputs in
         let os = p.shown in
@@ -118,10 +121,10 @@ module _ (fits : InputsFit) (circuits : CircuitsLoop) (exist : TraceExists) (w :
         let same = kept before p.end _ os ((p.looped).loop).runs in
         let step : Steps (value_at (p.end).values) (inputs_at w done later) o (value_at after.values) =
         circuit_step net w.pads p.end after (inputs_at w done later) o same.0 (same.1 ∙ own) here.steps in
-        let rest = more Steps w fits (steps_on net w.pads exist has) (clocks - length os - 1) (suc done)
+        let rest = more swaps Steps w fits (steps_on net w.pads exist has) (clocks - length os - 1) (suc done)
         (value_at after.values) (faces_after w done o later) (can_step net w.pads exist has (value_at after.values)) in
         let us = o ∷ rest.shown in
-        let next : IsLoop Steps w done (value_at (p.end).values) later us rest.after rest.later =
+        let next : IsLoopOn swaps Steps w done (value_at (p.end).values) later us rest.after rest.later =
         record { runs = (value_at after.values, step, (rest.loop).runs); parts = (rest.loop).parts } in
         let a : List ℕ = lines_text 0 outs os in
         let b : List ℕ = line_text done outs o in
@@ -145,7 +148,7 @@ module _ (fits : InputsFit) (circuits : CircuitsLoop) (exist : TraceExists) (w :
             shown = os ++ us;
             end = rest.after;
             left = rest.later;
-            loop = loop_then Steps w 0 done (λ node. X)
+            loop = loop_then swaps Steps w 0 done (λ node. X)
                 (value_at (p.end).values) rest.after faces later rest.later os us
                 p.counted (network_loop faces later os p.end (p.looped).loop) next;
             many = (let q = rest.many in omega (arith, q, p.cut.0, length-append os us));
@@ -163,9 +166,9 @@ module _ (fits : InputsFit) (circuits : CircuitsLoop) (exist : TraceExists) (w :
 
     -- all lines were printed, and then the last one, or a part of it
     line_behind : (u : T) (r : Result T E) (z : Option (List ℕ))
-        → PrintsLoop {T = T} {E = E} CircuitSteps w 0 done clocks before after faces later x y (Ok u)
+        → PrintsLoopWith swaps {T = T} {E = E} CircuitSteps w 0 done clocks before after faces later x y (Ok u)
         → TakesAll {T = T} {E = E} Gains y z (last_line net (value_at after.values)) r
-        → PrintsBoard {T = T} {E = E} net w clocks faces later x z r
+        → PrintsBoardWith swaps {T = T} {E = E} net w clocks faces later x z r
     line_behind u r z p line =
         let outs = (w.pads).outputs in
         let os = p.shown in
@@ -183,7 +186,7 @@ module _ (fits : InputsFit) (circuits : CircuitsLoop) (exist : TraceExists) (w :
             shown = os;
             end = value_at after.values;
             left = later;
-            loop = subst (λ (s : Running). IsLoop Steps w 0 (λ node. X) faces os (value_at s.values) later)
+            loop = subst (λ (s : Running). IsSwappedLoop swaps Steps w 0 (λ node. X) faces os (value_at s.values) later)
                 (sym p.whole.1) (network_loop faces later os p.end (p.looped).loop);
             many = p.whole.0;
             lines = refl;
@@ -194,7 +197,7 @@ module _ (fits : InputsFit) (circuits : CircuitsLoop) (exist : TraceExists) (w :
           gained = subst (λ t. WhereTold (Gains t) x z) (sym first)
               (gains_twice a (take n last) x y z
               (subst (λ t. WhereTold (Gains a) x t) (sym p.whole.2) (p.looped).gained) line.taken);
-          parts = ((p.looped).loop).parts ∙ sym (ap (faces_along w 0 faces) (take_all _ os lines));
+          parts = ((p.looped).loop).parts ∙ sym (ap (faces_with swaps w 0 faces) (take_all _ os lines));
         }
       where
         whole : (q : Result T E) (a last : List ℕ) (n : ℕ) → OnOk q (n ≡ length last)
@@ -217,11 +220,12 @@ same_wired w pads links stores e f h =
     ap (λ p. wired_by p w.links w.stores) e ∙ ap (λ l. wired_by pads l w.stores) f ∙ ap (wired_by pads links) h
 
 -- what was printed of the same
-pub printed_as : {T E : Type 0} (s t : Standing) (clocks : ℕ) (faces later : List Face) (x y : Option (List ℕ))
-    (r : Result T E) → s ≡ t → PrintsBoard {T = T} {E = E} s.network s.wired clocks faces later x y r
-    → PrintsBoard {T = T} {E = E} t.network t.wired clocks faces later x y r
-printed_as {T} {E} s t clocks faces later x y r is prints =
-    subst (λ (z : Standing). PrintsBoard {T = T} {E = E} z.network z.wired clocks faces later x y r) is prints
+pub printed_as : {T E : Type 0} (swaps : List Exchange) (s t : Standing) (clocks : ℕ) (faces later : List Face)
+    (x y : Option (List ℕ)) (r : Result T E) → s ≡ t
+    → PrintsBoardWith swaps {T = T} {E = E} s.network s.wired clocks faces later x y r
+    → PrintsBoardWith swaps {T = T} {E = E} t.network t.wired clocks faces later x y r
+printed_as {T} {E} swaps s t clocks faces later x y r is prints =
+    subst (λ (z : Standing). PrintsBoardWith swaps {T = T} {E = E} z.network z.wired clocks faces later x y r) is prints
 
 -- ---- a circuit that has run no clock
 
@@ -229,33 +233,35 @@ has_its_pads : (circuit : Running) (board : Boarding) (size : List ℕ) → IsRe
     → HasPads circuit.network (board.wired).pads
 has_its_pads circuit board size ready = subst (HasPads circuit.network) ready.pads ready.has_pads
 
-module _ (fits : InputsFit) (circuits : CircuitsLoop) (exist : TraceExists) (circuit : Running) (board : Boarding)
-    (size : List ℕ) (ready : IsReady circuit board size) {T E : Type 0} (done clocks : ℕ) (after : Running)
-    (faces later : List Face) (x y : Option (List ℕ)) where
-  abbrev Printed : Result T E → Type 0
-  Printed r = PrintsLoop {T = T} {E = E} CircuitSteps board.wired board.done done clocks circuit after faces later x y r
+-- from its first clock
+pub from_first : {T E : Type 0} (circuit : Running) (board : Boarding) (size : List ℕ) → IsReady circuit board size
+    → (done clocks : ℕ) (after : Running) (faces later : List Face) (x y : Option (List ℕ)) (r : Result T E)
+    → PrintsLoop {T = T} {E = E} CircuitSteps board.wired board.done done clocks circuit after faces later x y r
+    → PrintsLoopWith [] {T = T} {E = E} CircuitSteps board.wired 0 done clocks circuit after faces later x y r
+from_first {T} {E} circuit board size ready done clocks after faces later x y r p =
+    subst (λ n. PrintsLoop {T = T} {E = E} CircuitSteps board.wired n done clocks circuit after faces later x y r)
+    ready.unrun p
 
-  from_first : (r : Result T E) → Printed r
-      → PrintsLoop {T = T} {E = E} CircuitSteps board.wired 0 done clocks circuit after faces later x y r
-  from_first r p =
-      subst (λ n. PrintsLoop {T = T} {E = E} CircuitSteps board.wired n done clocks circuit after faces later x y r)
-      ready.unrun p
+module _ (fits : InputsFit) (circuits : SwappedCircuitsLoop) (exist : TraceExists) (swaps : List Exchange)
+    (circuit : Running) (board : Boarding) (size : List ℕ) (ready : IsReady circuit board size) {T E : Type 0}
+    (done clocks : ℕ) (after : Running) (faces later : List Face) (x y : Option (List ℕ)) where
+  abbrev Printed : Result T E → Type 0
+  Printed r =
+      PrintsLoopWith swaps {T = T} {E = E} CircuitSteps board.wired 0 done clocks circuit after faces later x y r
 
   -- a line was cut short
   pub cut_run : (e f : E) (r : Result T E) → r ≡ Err f → Printed (Err e)
-      → PrintsBoard {T = T} {E = E} circuit.network board.wired clocks faces later x y r
+      → PrintsBoardWith swaps {T = T} {E = E} circuit.network board.wired clocks faces later x y r
   cut_run e f r is p =
-      cut_in_lines fits circuits exist board.wired circuit ready.pads
-      (has_its_pads circuit board size ready) ready.unknown done clocks after faces later x y e f r is
-      (from_first (Err e) p)
+      cut_in_lines fits circuits exist swaps board.wired circuit ready.pads
+      (has_its_pads circuit board size ready) ready.unknown done clocks after faces later x y e f r is p
 
   -- all lines were printed, and the size line behind them, or a part of it
   pub whole_run : (u : T) (r : Result T E) (z : Option (List ℕ)) → Printed (Ok u)
       → ((net : Network) → size ≡ size_text net → after.network ≡ net
       → TakesAll {T = T} {E = E} Gains y z (last_line net (value_at after.values)) r)
-      → PrintsBoard {T = T} {E = E} circuit.network board.wired clocks faces later x z r
+      → PrintsBoardWith swaps {T = T} {E = E} circuit.network board.wired clocks faces later x z r
   whole_run u r z p line =
-      let q = from_first (Ok u) p in
-      line_behind fits circuits exist board.wired circuit ready.pads
-      (has_its_pads circuit board size ready) ready.unknown done clocks after faces later x y u r z q
-      (line circuit.network ready.sized (network_after board.wired done clocks circuit after faces later x y u q))
+      line_behind fits circuits exist swaps board.wired circuit ready.pads
+      (has_its_pads circuit board size ready) ready.unknown done clocks after faces later x y u r z p
+      (line circuit.network ready.sized (network_after swaps board.wired done clocks circuit after faces later x y u p))

@@ -2,11 +2,11 @@
 use Rattle.std.proofs.Common.{◌≡◌, ◌∙◌, ℕ, zero, suc, List, [], ◌∷◌, length, take, refl, arith}
 use Rattle.mp_base.specs.declared.value.Trit.{Trit}
 use Rattle.board.specs.Loop.{Wired}
-use Rattle.board.specs.Laws.{AgreeWhereSettled, LoopsAgree}
-use Rattle.board_laws.specs.Laws.{ChipsLoop}
+use Rattle.board.specs.Laws.{AgreeWhereSettled, SwappedLoopsAgree}
+use Rattle.board_laws.specs.Laws.{SwappedChipsLoop}
 use Rattle.mask_net.specs.Laws.{OneNetwork, SoundWithPads}
 use Rattle.replay_run.specs.Laws.{OnePads}
-use Rattle.board_run.specs.Laws.{BoardsFollow}
+use Rattle.board_run.specs.Laws.{BoardsFollow, SwappedBoardsFollow}
 use Rattle.board_run.proofs.Chips.{follow}
 
 -- what agrees is as long
@@ -26,9 +26,11 @@ first_agree w clock (suc k) [] (p ∷ ps) h = absurd h
 first_agree w clock (suc k) (o ∷ os) [] h = absurd h
 first_agree w clock (suc k) (o ∷ os) (p ∷ ps) h = (h.0, first_agree w (suc clock) k os ps h.1)
 
-pub boards_follow : ChipsLoop → OneNetwork → SoundWithPads → OnePads → LoopsAgree → BoardsFollow
-boards_follow chips one_network sound one_pads agree p bytes net w clocks faces text unbroken chip drawn is board =
-    let run = chips p net w faces board.left board.shown board.end unbroken is
+pub swapped_boards_follow : SwappedChipsLoop → OneNetwork → SoundWithPads → OnePads → SwappedLoopsAgree
+    → SwappedBoardsFollow
+swapped_boards_follow chips one_network sound one_pads agree swaps p bytes net w clocks faces text unbroken chip drawn
+    is board =
+    let run = chips swaps p net w faces board.left board.shown board.end unbroken is
     (follow one_network sound one_pads p bytes chip net w.pads is.are_pads drawn) board.loop in
     record {
       told = run.0;
@@ -39,5 +41,9 @@ boards_follow chips one_network sound one_pads agree p bytes net w clocks faces 
         many = as_long w 0 board.shown run.0 run.3 ∙ board.many;
       };
       agrees = run.3;
-      alike = λ k. (agree w 0 faces (take k board.shown) (take k run.0) (first_agree w 0 k board.shown run.0 run.3)).1;
+      alike = λ k.
+          (agree swaps w 0 faces (take k board.shown) (take k run.0) (first_agree w 0 k board.shown run.0 run.3)).1;
     }
+
+pub boards_follow : SwappedChipsLoop → OneNetwork → SoundWithPads → OnePads → SwappedLoopsAgree → BoardsFollow
+boards_follow chips one_network sound one_pads agree = swapped_boards_follow chips one_network sound one_pads agree []

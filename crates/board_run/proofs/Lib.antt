@@ -1,4 +1,5 @@
 pub mod Feeds
+pub mod Stretches
 pub mod Boards
 pub mod Chips
 pub mod Following

@@ -1,5 +1,5 @@
 -- What holds of chips on boards.
-use Rattle.std.specs.Prelude.{◌≡◌, ℕ, List, length, take}
+use Rattle.std.specs.Prelude.{◌≡◌, ℕ, List, [], length, take}
 use Rattle.mp_base.specs.declared.value.Trit.{Trit}
 use Rattle.mp_program.specs.declared.program.Program.{Program}
 use Rattle.mp_program.specs.State.{State, zero_state}
@@ -10,27 +10,33 @@ use Rattle.mask_net.specs.Masks.{IsNetOf}
 use Rattle.headline.specs.Headline.{IsChipOf}
 use Rattle.trace_run.specs.Transcript.{ProgramSteps}
 use Rattle.board.specs.Face.{Face}
-use Rattle.board.specs.Loop.{Wired, IsLoop, faces_along}
+use Rattle.board.specs.Loop.{Wired, Exchange, IsSwappedLoop, faces_with}
 use Rattle.board.specs.Laws.{AgreeWhereSettled}
 use Rattle.board_laws.specs.Laws.{IsBoardOf}
-use Rattle.board_run.specs.Boarded.{IsBoarded}
+use Rattle.board_run.specs.Boarded.{IsBoarded, IsBoardedWith}
 
--- so many clocks of the loop of a program from the zero state and these parts show this
-pub record IsProgramLoop (p : Program) (w : Wired) (clocks : ℕ) (faces : List Face)
+-- so many clocks of the loop of a program with these swaps, from the zero state and these parts, show this
+pub record IsProgramLoopWith (swaps : List Exchange) (p : Program) (w : Wired) (clocks : ℕ) (faces : List Face)
     (shown : List (List (List Trit))) : Type 0 where
   pub end : State
   pub left : List Face
-  pub loop : IsLoop (ProgramSteps p (w.pads).outputs) w 0 (zero_state p) faces shown end left
+  pub loop : IsSwappedLoop swaps (ProgramSteps p (w.pads).outputs) w 0 (zero_state p) faces shown end left
   pub many : length shown ≡ clocks
 
 -- The program has such a loop, which shows the same in each settled clock, and leaves the parts alike after any number
 -- of its clocks.
-pub record FollowsOnBoard (p : Program) (w : Wired) (clocks : ℕ) (faces : List Face)
+pub record FollowsOnBoardWith (swaps : List Exchange) (p : Program) (w : Wired) (clocks : ℕ) (faces : List Face)
     (shown : List (List (List Trit))) : Type 0 where
   pub told : List (List (List Trit))
-  pub loop : IsProgramLoop p w clocks faces told
+  pub loop : IsProgramLoopWith swaps p w clocks faces told
   pub agrees : AgreeWhereSettled w 0 shown told
-  pub alike : (k : ℕ) → faces_along w 0 faces (take k shown) ≡ faces_along w 0 faces (take k told)
+  pub alike : (k : ℕ) → faces_with swaps w 0 faces (take k shown) ≡ faces_with swaps w 0 faces (take k told)
+
+abbrev pub IsProgramLoop : Program → Wired → ℕ → List Face → List (List (List Trit)) → Type 0
+IsProgramLoop = IsProgramLoopWith []
+
+abbrev pub FollowsOnBoard : Program → Wired → ℕ → List Face → List (List (List Trit)) → Type 0
+FollowsOnBoard = FollowsOnBoardWith []
 
 -- what a chip of a program shows on a board follows the program there
 abbrev pub BoardsFollow : Type 0
@@ -39,8 +45,22 @@ BoardsFollow =
     → IsUnbroken p → IsChipOf p bytes → IsNetOf bytes net → IsBoardOf p w → (board : IsBoarded net w clocks faces text)
     → FollowsOnBoard p w clocks faces board.shown
 
+-- the same with swaps, which both make
+abbrev pub SwappedBoardsFollow : Type 0
+SwappedBoardsFollow =
+    (swaps : List Exchange) (p : Program) (bytes : List ℕ) (net : Network) (w : Wired) (clocks : ℕ)
+    (faces : List Face) (text : List ℕ) → IsUnbroken p → IsChipOf p bytes → IsNetOf bytes net → IsBoardOf p w
+    → (board : IsBoardedWith swaps net w clocks faces text)
+    → FollowsOnBoardWith swaps p w clocks faces board.shown
+
 -- a circuit that has the board's pads shows something in so many clocks
 abbrev pub BoardsRun : Type 0
 BoardsRun =
     (net : Network) (w : Wired) (clocks : ℕ) (faces : List Face) → HasPads net w.pads
     → (text : List ℕ) × IsBoarded net w clocks faces text
+
+-- the same with swaps
+abbrev pub SwappedBoardsRun : Type 0
+SwappedBoardsRun =
+    (swaps : List Exchange) (net : Network) (w : Wired) (clocks : ℕ) (faces : List Face) → HasPads net w.pads
+    → (text : List ℕ) × IsBoardedWith swaps net w clocks faces text

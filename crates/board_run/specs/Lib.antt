@@ -1,3 +1,4 @@
+pub mod Swaps
 pub mod Boarded
 pub mod Standing
 pub mod Laws

@@ -1,9 +1,9 @@
 //! Laws of chips on boards: a call of one does nothing, and tells the caller's proof what it ensures.
 
-ghost use Rattle.board_run.specs.Laws.{BoardsFollow, BoardsRun};
+ghost use Rattle.board_run.specs.Laws.{BoardsFollow, BoardsRun, SwappedBoardsFollow, SwappedBoardsRun};
 
-use board::laws::{inputs_fit, loops_agree};
-use board_laws::laws::chips_loop;
+use board::laws::{inputs_fit, swapped_loops_agree};
+use board_laws::laws::swapped_chips_loop;
 use mask_net::laws::{one_network, sound_with_pads};
 use replay_run::laws::one_pads;
 use switch_net::laws::circuits_run;
@@ -12,16 +12,35 @@ use switch_net::laws::circuits_run;
 pub fn boards_follow()
     ensures { BoardsFollow }
 {
-    chips_loop();
+    swapped_chips_loop();
     one_network();
     sound_with_pads();
     one_pads();
-    loops_agree();
+    swapped_loops_agree();
+}
+
+/// The same with swaps, which both make.
+pub fn swapped_boards_follow()
+    ensures { SwappedBoardsFollow }
+{
+    swapped_chips_loop();
+    one_network();
+    sound_with_pads();
+    one_pads();
+    swapped_loops_agree();
 }
 
 /// A circuit that has the board's pads runs there.
 pub fn boards_run()
     ensures { BoardsRun }
+{
+    circuits_run();
+    inputs_fit();
+}
+
+/// The same with swaps.
+pub fn swapped_boards_run()
+    ensures { SwappedBoardsRun }
 {
     circuits_run();
     inputs_fit();

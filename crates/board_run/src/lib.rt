@@ -3,5 +3,7 @@
 
 pub mod laws;
 mod run;
+mod swapped;
 
 pub use run::BoardRun;
+pub use swapped::Exchange;

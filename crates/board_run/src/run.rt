@@ -10,13 +10,15 @@ ghost use Rattle.switch_net.specs.Breaks.{HasPads};
 ghost use Rattle.mask_net.specs.SizeLine.{last_line, size_text};
 ghost use Rattle.board.specs.Boarding.{AreWires};
 ghost use Rattle.board.specs.Face.{Face};
-ghost use Rattle.board.specs.Loop.{Wired};
-ghost use Rattle.board_run.specs.Boarded.{PrintsBoard};
+ghost use Rattle.board.specs.Loop.{Exchange as Swapped, Wired};
+ghost use Rattle.board_run.specs.Boarded.{PrintsBoard, PrintsBoardWith};
 ghost use Rattle.board_run.specs.Standing.{IsReady};
+ghost use Rattle.board_run.specs.Swaps.{AreTimely};
 
+use crate::swapped::{Exchange, run_swapped};
 use board::laws::inputs_fit;
 use board::{Board, Link, NamedPart, Part};
-use board_laws::laws::circuits_loop;
+use board_laws::laws::swapped_circuits_loop;
 use clock_run::Circuit;
 use mask_net::size_text;
 use mp_base::{List, NoMemory, Pads, Refusal};
@@ -90,9 +92,57 @@ fn run_clocks<O: Sink>(
     ensures cause { HasCause (O.faults out.old) (O.faults out.new) result }
 {
     circuits_run();
-    circuits_loop();
+    swapped_circuits_loop();
     inputs_fit();
     board.run(circuit, parts, clocks, out)?;
+    write_end(out, size, circuit)
+}
+
+// Runs a circuit that has run no clock, with swaps, and prints all of it.
+fn run_exchanging<O: Sink>(
+    circuit: &mut Circuit<'_>,
+    board: &mut Board<'_>,
+    size: &[u8],
+    parts: &mut Vec<NamedPart>,
+    swaps: Vec<Exchange>,
+    clocks: u32,
+    out: &mut O,
+) -> Result<(), Failed>
+    requires ready { IsReady circuit.old board.old size.now }
+    requires parts { All (λ l. l.part < length parts.old.items) board.old.wired.links }
+    requires timely { let swapped = map (λ s. let e : Swapped = record {
+      clock = s.clock;
+      link = s.link;
+      fresh = record {
+        state = (⟦<dyn Part as Part>⟧ s.fresh.vtable).state s.fresh.value;
+        drives = (⟦<dyn Part as Part>⟧ s.fresh.vtable).driven_in;
+        sees = (⟦<dyn Part as Part>⟧ s.fresh.vtable).after_seeing;
+      };
+    } in e) in
+        AreTimely board.old.wired.links clocks (swapped swaps.items) }
+    ensures names { map (λ p. string_bytes p.name) parts.new.items ≡ map (λ p. string_bytes p.name) parts.old.items }
+    ensures printed { let faces = map (λ p. let f : Face = record {
+      state = (⟦<dyn Part as Part>⟧ p.part.vtable).state p.part.value;
+      drives = (⟦<dyn Part as Part>⟧ p.part.vtable).driven_in;
+      sees = (⟦<dyn Part as Part>⟧ p.part.vtable).after_seeing;
+    } in f) in
+        let swapped = map (λ s. let e : Swapped = record {
+          clock = s.clock;
+          link = s.link;
+          fresh = record {
+            state = (⟦<dyn Part as Part>⟧ s.fresh.vtable).state s.fresh.value;
+            drives = (⟦<dyn Part as Part>⟧ s.fresh.vtable).driven_in;
+            sees = (⟦<dyn Part as Part>⟧ s.fresh.vtable).after_seeing;
+          };
+        } in e) in
+        PrintsBoardWith (swapped swaps.items) circuit.old.network board.old.wired clocks
+        (faces parts.old.items) (faces parts.new.items) (O.held out.old) (O.held out.new) result }
+    ensures cause { HasCause (O.faults out.old) (O.faults out.new) result }
+{
+    circuits_run();
+    swapped_circuits_loop();
+    inputs_fit();
+    run_swapped(board, circuit, parts, swaps, clocks, out)?;
     write_end(out, size, circuit)
 }
 
@@ -158,5 +208,57 @@ impl<'a> BoardRun<'a> {
             size,
         } = self;
         run_clocks(&mut circuit, &mut board, &size, parts, clocks, out)
+    }
+
+    /// The same with swaps, each of which is made before its clock. A part that isn't placed at the end is dropped.
+    ///
+    /// # Errors
+    ///
+    /// `Failed` where the sink failed: then a first part was printed, but not all, and the parts are as after the
+    /// clocks whose lines were printed whole, with the swaps made by then.
+    pub fn run_with<O: Sink>(
+        self,
+        parts: &mut Vec<NamedPart>,
+        swaps: Vec<Exchange>,
+        clocks: u32,
+        out: &mut O,
+    ) -> Result<(), Failed>
+        requires parts { All (λ l. l.part < length parts.old.items) self.wired.links }
+        requires timely { let swapped = map (λ s. let e : Swapped = record {
+          clock = s.clock;
+          link = s.link;
+          fresh = record {
+            state = (⟦<dyn Part as Part>⟧ s.fresh.vtable).state s.fresh.value;
+            drives = (⟦<dyn Part as Part>⟧ s.fresh.vtable).driven_in;
+            sees = (⟦<dyn Part as Part>⟧ s.fresh.vtable).after_seeing;
+          };
+        } in e) in
+            AreTimely self.wired.links clocks (swapped swaps.items) }
+        ensures names { map (λ p. string_bytes p.name) parts.new.items
+            ≡ map (λ p. string_bytes p.name) parts.old.items }
+        ensures printed { let faces = map (λ p. let f : Face = record {
+          state = (⟦<dyn Part as Part>⟧ p.part.vtable).state p.part.value;
+          drives = (⟦<dyn Part as Part>⟧ p.part.vtable).driven_in;
+          sees = (⟦<dyn Part as Part>⟧ p.part.vtable).after_seeing;
+        } in f) in
+            let swapped = map (λ s. let e : Swapped = record {
+              clock = s.clock;
+              link = s.link;
+              fresh = record {
+                state = (⟦<dyn Part as Part>⟧ s.fresh.vtable).state s.fresh.value;
+                drives = (⟦<dyn Part as Part>⟧ s.fresh.vtable).driven_in;
+                sees = (⟦<dyn Part as Part>⟧ s.fresh.vtable).after_seeing;
+              };
+            } in e) in
+            PrintsBoardWith (swapped swaps.items) self.entry.network self.entry.wired clocks
+            (faces parts.old.items) (faces parts.new.items) (O.held out.old) (O.held out.new) result }
+        ensures cause { HasCause (O.faults out.old) (O.faults out.new) result }
+    {
+        let BoardRun {
+            mut circuit,
+            mut board,
+            size,
+        } = self;
+        run_exchanging(&mut circuit, &mut board, &size, parts, swaps, clocks, out)
     }
 }

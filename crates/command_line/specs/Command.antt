@@ -40,9 +40,20 @@ abbrev pub three : (List ℕ → List ℕ → List ℕ → Command) → List (Li
 three make (a ∷ b ∷ c ∷ []) = Some (make a b c)
 three make words = None
 
--- a board that runs for 1 to CLOCK_LIMIT clocks, which a word of at most five digits spells
+abbrev pub begins_with_at : List ℕ → Bool
+begins_with_at [] = false
+begins_with_at (b ∷ bs) = b == 64
+
+-- the first of these words is a swap
+abbrev pub swaps_first : List (List ℕ) → Bool
+swaps_first [] = false
+swaps_first (word ∷ words) = begins_with_at word
+
+-- a board that runs for 1 to CLOCK_LIMIT clocks, which a word of at most five digits spells, with a link before any swap
 abbrev pub board_for : List ℕ → List ℕ → List ℕ → List (List ℕ) → Option Command
-board_for source cif clocks links = option_map (λ n. Board source cif n links) (number_in 5 1 CLOCK_LIMIT clocks)
+board_for source cif clocks links =
+    if swaps_first links then None
+    else option_map (λ n. Board source cif n links) (number_in 5 1 CLOCK_LIMIT clocks)
 
 -- a board of three words, and one link or more
 abbrev pub board_of : List (List ℕ) → Option Command

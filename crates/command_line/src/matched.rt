@@ -4,7 +4,7 @@ ghost use Rattle.std.specs.Prelude.{◌≡◌, ◌-◌, ◌^◌, codes, map, str
 ghost use Rattle.std.specs.Option.{option_map};
 ghost use Rattle.clap.specs.Words.{first_of, found_of, rows_of, subcommand_rows_of};
 ghost use Rattle.command_line.specs.Command as spec;
-ghost use Rattle.command_line.specs.Command.{seen};
+ghost use Rattle.command_line.specs.Command.{seen, swaps_first};
 ghost use Rattle.command_line.specs.Number.{number_in};
 ghost use Rattle.command_line.specs.declared.command.TheConstants.{CLOCK_LIMIT};
 ghost use Rattle.command_line.specs.Read.{read_board, read_make, read_met, read_named};
@@ -73,12 +73,26 @@ fn clocks(word: &str) -> Option<u32>
     Some(clocks as u32)
 }
 
+// Whether the first of these words is a swap.
+fn swaps_first(words: &[String]) -> bool
+    ensures { result ≡ swaps_first (map string_bytes words.now) }
+{
+    match words.first() {
+        Some(word) => word.as_str().starts_with('@'),
+        None => false,
+    }
+}
+
 fn board<'a>(matches: &ArgMatches<'a>, links: &'a [String]) -> Option<Command<'a>>
     ensures { option_map seen result ≡ read_board (map string_bytes links.now) (rows_of (found_of matches.now)) }
 {
     let source = text(matches, "source")?;
     let cif = text(matches, "cif")?;
-    let clocks = clocks(text(matches, "clocks")?)?;
+    let word = text(matches, "clocks")?;
+    if swaps_first(links) {
+        return None;
+    }
+    let clocks = clocks(word)?;
     Some(Command::Board(source, cif, clocks, links))
 }
 

@@ -1,4 +1,4 @@
-use Rattle.std.proofs.Common.{◌<◌, length, sym, subst}
+use Rattle.std.proofs.Common.{[], ◌<◌, length, sym, subst}
 use Rattle.std.specs.Prelude.{All}
 use Rattle.board.specs.declared.link.Link.{Link}
 use Rattle.board_run.specs.Standing.{Standing, IsReady}
@@ -21,7 +21,7 @@ pub returns-clause-printed : goal.returns-clause-printed
 returns-clause-printed g c =
     let standing : Standing =
     record { network = c.self.inside.circuit.network; wired = c.self.inside.board.wired } in
-    printed_as standing _ c.args.clocks _ _ (g.O.Sink.held c.args.out.now) (g.O.Sink.held c.run_clocks.new.out)
+    printed_as [] standing _ c.args.clocks _ _ (g.O.Sink.held c.args.out.now) (g.O.Sink.held c.run_clocks.new.out)
     c.run_clocks.result c.self.view_is c.run_clocks.ensures.printed
 
 pub returns-clause-cause : goal.returns-clause-cause
