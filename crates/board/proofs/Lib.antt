@@ -5,10 +5,7 @@ mod Given
 mod Ready
 mod Loops
 mod Words
-pub mod JoinedLoops
-mod GoingOn
 pub mod SwappedLoops
-mod GoingOnWith
 pub mod Calls
 mod Clocks
 mod Plans

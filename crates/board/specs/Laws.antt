@@ -1,15 +1,14 @@
 -- What holds of loops.
-use Rattle.std.specs.Prelude.{◌≡◌, ℕ, suc, ◌+◌, List, [], ◌∷◌, ◌++◌, true, Option, Some, Result, Ok, length}
+use Rattle.std.specs.Prelude.{◌≡◌, ℕ, suc, ◌+◌, List, [], ◌∷◌, ◌++◌, true, Option, Some, Ok, length}
 use Rattle.mp_base.specs.declared.value.Trit.{Trit}
 use Rattle.mp_base.specs.PadBits.{Fit}
 use Rattle.outside.specs.declared.calls.Failed.{Failed}
-use Rattle.transcript.specs.Laws.{StepsOn}
 use Rattle.mp_base.specs.declared.pad.Pads.{Pads}
 use Rattle.mp_base.specs.declared.refusal.Broken.{Broken}
 use Rattle.board.specs.declared.link.Link.{Link}
 use Rattle.board.specs.Links.{AreLinks, IsFirstBroken, OfWords}
 use Rattle.board.specs.Face.{Face}
-use Rattle.board.specs.Printing.{LoopedWith, PrintsLines, PrintsLinesWith, PrintsLoop, PrintsLoopWith}
+use Rattle.board.specs.Printing.{LoopedWith, PrintsLoop}
 use Rattle.board.specs.Loop.{Wired, Exchange, part_of, put_at, inputs_at, is_settled, inputs_with, faces_with}
 use Rattle.board.specs.Loop.{inputs_along, faces_along}
 use Rattle.board.specs.declared.plan.Plan.{Plan}
@@ -41,22 +40,6 @@ SwappedLoopsAgree =
 -- what the inputs are given fits them
 abbrev pub InputsFit : Type 0
 InputsFit = (w : Wired) (clock : ℕ) (faces : List Face) → Fit (w.pads).inputs (inputs_at w clock faces)
-
--- where a device can always step again, what a run printed is of a loop of all its clocks
-abbrev pub GoesOn : {S : Type 0} → (S → List ℕ → List (List Trit) → S → Type 0) → Type 0
-GoesOn Steps =
-    (w : Wired) (clock done clocks : ℕ) (before after : _) (faces later : List Face) (old new : Option (List ℕ))
-    (result : Result (Unit {0}) Failed) → StepsOn Steps (w.pads).inputs
-    → PrintsLoop Steps w clock done clocks before after faces later old new result
-    → PrintsLines Steps w clock clocks before after faces later old new result
-
--- the same with swaps: where a device can always step again, what a run printed is of a loop of all its clocks
-abbrev pub GoesOnWith : {S : Type 0} → (S → List ℕ → List (List Trit) → S → Type 0) → Type 0
-GoesOnWith Steps =
-    (swaps : List Exchange) (w : Wired) (clock done clocks : ℕ) (before after : _) (faces later : List Face)
-    (old new : Option (List ℕ)) (result : Result (Unit {0}) Failed) → StepsOn Steps (w.pads).inputs
-    → PrintsLoopWith swaps Steps w clock done clocks before after faces later old new result
-    → PrintsLinesWith swaps Steps w clock clocks before after faces later old new result
 
 -- Calls of one board on one device that answered Ok, from a clock on: the swaps that were made, how many clocks were
 -- run, and how the device and the parts were left. A swap puts its part in the place of the link's part.

@@ -39,21 +39,6 @@ pub record PrintsLoopWith (swaps : List Exchange) {S T E : Type 0}
   pub whole : OnOk result ((length shown ≡ clocks) × (after ≡ end) × (new ≡ told))
   pub cut : OnErr result ((length shown < clocks) × PrintsClock Steps w done end after later later told new result)
 
--- The lines of so many clocks of a loop were printed, all of them at `Ok`, with the device and the parts as the loop
--- leaves them, and else a first part, but not all.
-pub record PrintsLinesWith (swaps : List Exchange) {S T E : Type 0}
-    (Steps : S → List ℕ → List (List Trit) → S → Type 0) (w : Wired)
-    (clock clocks : ℕ) (before after : S) (faces later : List Face) (old new : Option (List ℕ))
-    (result : Result T E) : Type 0 where
-  pub shown : List (List (List Trit))
-  pub end : S
-  pub left : List Face
-  pub loop : IsSwappedLoop swaps Steps w clock before faces shown end left
-  pub many : length shown ≡ clocks
-  pub ends : OnOk result (after ≡ end)
-  pub parts : OnOk result (later ≡ left)
-  pub taken : TakesAll Gains old new (lines_text clock (w.pads).outputs shown) result
-
 -- ---- the same without swaps
 
 abbrev pub Looped : {S : Type 0} → (S → List ℕ → List (List Trit) → S → Type 0) → Wired → ℕ → S → List Face
@@ -63,7 +48,3 @@ Looped = LoopedWith []
 abbrev pub PrintsLoop : {S T E : Type 0} → (S → List ℕ → List (List Trit) → S → Type 0) → Wired → ℕ → ℕ → ℕ → S → S
     → List Face → List Face → Option (List ℕ) → Option (List ℕ) → Result T E → Type 0
 PrintsLoop {S = S} {T = T} {E = E} = PrintsLoopWith [] {S = S} {T = T} {E = E}
-
-abbrev pub PrintsLines : {S T E : Type 0} → (S → List ℕ → List (List Trit) → S → Type 0) → Wired → ℕ → ℕ → S → S
-    → List Face → List Face → Option (List ℕ) → Option (List ℕ) → Result T E → Type 0
-PrintsLines {S = S} {T = T} {E = E} = PrintsLinesWith [] {S = S} {T = T} {E = E}

@@ -1,6 +1,6 @@
 //! Laws of loops: a call of one does nothing, and tells the caller's proof what it ensures.
 
-ghost use Rattle.board.specs.Laws.{BrokenOnce, CallsLoop, FirstOnce, GoesOn, GoesOnWith, InputsFit, LinksOnce};
+ghost use Rattle.board.specs.Laws.{BrokenOnce, CallsLoop, FirstOnce, InputsFit, LinksOnce};
 ghost use Rattle.board.specs.Laws.{LinksVerdict, LoopsAgree, PlanOnce, PlanOrBroken, PlanVerdict, SwappedLoopsAgree};
 ghost use Rattle.board.specs.Laws.{WholeOrBroken};
 
@@ -19,16 +19,6 @@ pub fn swapped_loops_agree()
 /// What the inputs are given fits them.
 pub fn inputs_fit()
     ensures { InputsFit }
-{}
-
-/// Where a device can always step again, what a run of a board printed is of a loop of all its clocks.
-pub fn lines_of_loops<D: Device>()
-    ensures { GoesOn D.steps }
-{}
-
-/// The same with swaps.
-pub fn lines_of_swapped_loops<D: Device>()
-    ensures { GoesOnWith D.steps }
 {}
 
 /// Calls of one board on one device that answer Ok, runs and swaps, are one loop.

@@ -6,27 +6,17 @@ use Rattle.std.proofs.lemmas.Bool.{eq-eqb}
 use Rattle.std.proofs.lemmas.List.Elements.{All-contains, Contains-append_left}
 use Rattle.std.proofs.lemmas.Option.{same_Some, slice_get_within}
 use Rattle.mp_base.specs.declared.pad.Pad.{Pad}
-use Rattle.mp_base.proofs.Entries.{get_map, some_entry, contains_from_get}
+use Rattle.mp_base.proofs.Entries.{contains_from_get}
 use Rattle.nor_net.specs.declared.net.NetId.{NetId}
-use Rattle.nor_net.specs.Elements.{Spot, Given, Joined, Nets, spot}
-use Rattle.nor_net.proofs.Parts.{same_net as same_id}
+use Rattle.nor_net.specs.Elements.{Spot, Given, spot}
 use Rattle.organelles.specs.declared.slices.Programmed.{Programmed}
 use Rattle.path_form.specs.declared.path.DataPath.{DataPath}
 use Rattle.path_form.specs.declared.path.Cast.{Cast}
 use Rattle.path_form.specs.declared.path.Lift.{Lift}
-use Rattle.path_form.specs.declared.flattened.Flattened.{Flattened}
 use Rattle.path_form.specs.Shape.{entries_of, is_input, times, chain_to}
 use Rattle.path_form.specs.Showing.{path_nets, pad_bits, pad_spot}
-use Rattle.path_form.specs.Flat.{IsFlat, Root, itself, through}
 use Rattle.path_form.proofs.Joining.{times_append, there, is_one_input}
 use Rattle.path_values.proofs.Realized.{in_entries, control_pad, slice_pad}
-use Rattle.chip_laws.specs.Laws.{InputsAreApart}
-use Rattle.path_form.specs.Flat.{rows_of}
-
--- a net that is given joins no other
-stay : (nets : Nets) (n root : Spot) → Root nets n root → nets n ≡ Some Given → root ≡ n
-stay nets n root (itself _) e = refl
-stay nets n root (through _ m _ j r) e = absurd (let s = same_Some Given (Joined m) (sym e ∙ j) in cc)
 
 module _ (p : DataPath) where
   -- a bit of an input pad is given
@@ -155,53 +145,3 @@ module _ (p : DataPath) where
       pub one_pad_bit : (a ≡ b) × (k ≡ l)
       one_pad_bit =
           same_place (pa.width == 0) (pb.width == 0) refl refl in_a in_b (ap (λ (s : Spot). s.band) same)
-
-module _ (p : DataPath) (f : Flattened) (flat : IsFlat p f) where
-  -- one bit of a pad, with its net
-  pub record At (a k : ℕ) (n : Spot) : Type 0 where
-    pub pad : Pad
-    pub id : NetId
-    pub is_pad : slice_get (p.pads).inputs a ≡ Some pad
-    pub is_id : slice_get p.inputs a ≡ Some id
-    pub inside : k < pad_bits pad
-    pub net : spot 0 (flat.of (pad_spot pad id k)) ≡ n
-
-  pub find : (a k : ℕ) (n : Spot) (xs : List Spot) → slice_get (rows_of f.inputs) a ≡ Some xs
-      → slice_get xs k ≡ Some n → At a k n
-  find a k n xs ea ek =
-      let r = get_map (λ (row : List NetId). map (spot 0) row) f.inputs a xs ea in
-      let i = get_map (spot 0) r.0 k n (ap (λ x. slice_get x k) r.2 ∙ ek) in
-      let within = slice_get_within f.inputs a r.0 r.1 in
-      let l1 = flat.sizes.0 in
-      let ((l2, _, _), _) = p.whole.entries_fit in
-      let pad = some_entry (p.pads).inputs a (omega (arith, within, l1)) in
-      let id = some_entry p.inputs a (omega (arith, within, l1, l2)) in
-      let are = flat.inputs a pad.0 id.0 r.0 pad.1 id.1 r.1 in
-      let at = slice_get_within r.0 k i.0 i.1 in
-      let size = are.0 in
-      let lt : k < pad_bits pad.0 = omega (arith, at, size) in
-      record {
-        pad = pad.0;
-        id = id.0;
-        is_pad = pad.1;
-        is_id = id.1;
-        inside = lt;
-        net = ap (spot 0) (same_Some (flat.of (pad_spot pad.0 id.0 k)) i.0 (sym (are.1 k lt) ∙ i.1)) ∙ i.2;
-      }
-
-  module _ (a b k l : ℕ) (n : Spot) (x : At a k n) (y : At b l n) where
-    same_spot : pad_spot x.pad x.id k ≡ pad_spot y.pad y.id l
-    same_spot =
-        let r = flat.numbering.apart (pad_spot x.pad x.id k) (pad_spot y.pad y.id l)
-        (same_id (flat.of (pad_spot x.pad x.id k)) (flat.of (pad_spot y.pad y.id l))
-        (ap (λ (s : Spot). s.net) (x.net ∙ sym y.net))) in
-        sym (stay (path_nets p) (pad_spot x.pad x.id k) r.0 r.1 (given p a k x.pad x.id x.is_pad x.is_id x.inside))
-        ∙ stay (path_nets p) (pad_spot y.pad y.id l) r.0 r.2 (given p b l y.pad y.id y.is_pad y.is_id y.inside)
-
-    one_bit : (a ≡ b) × (k ≡ l)
-    one_bit =
-        one_pad_bit p a b k l x.pad y.pad x.id y.id x.is_pad y.is_pad x.is_id y.is_id x.inside y.inside same_spot
-
-pub inputs_are_apart : InputsAreApart
-inputs_are_apart p f flat a b k l n xs ys ea eb ek el =
-    one_bit p f flat a b k l n (find p f flat a k n xs ea ek) (find p f flat b l n ys eb el)

@@ -2,8 +2,7 @@
 
 ghost use Rattle.chip_laws.specs.Fabrics.{FabricLays};
 ghost use Rattle.chip_laws.specs.Labels.{LabelsStand};
-ghost use Rattle.chip_laws.specs.Laws.{CircuitsHavePads, FlatsAreDrawable, InputsAreApart, NetworksDrawCircuits};
-ghost use Rattle.chip_laws.specs.Laws.{PathsArePlanned, PathsFollow, PlansHold};
+ghost use Rattle.chip_laws.specs.Laws.{CircuitsHavePads, NetworksDrawCircuits};
 ghost use Rattle.chip_laws.specs.Rows.{PathsAreFed, PathsShowRows, RowsFollow};
 ghost use Rattle.chip_laws.specs.Sound.{FabricsAreFew, LabelsFit};
 
@@ -11,55 +10,18 @@ use drawing::laws::drawings_carry_over;
 use drawn_nets::laws::circuits_are_drawn;
 use fabric_laws::laws::{fabric_draws_its_switches, fabrics_are_small, labels_name_conductors};
 use mask_laws::laws::masks_draw_networks;
-use path_form::laws::flat_nets_follow;
 use switch_net::laws::network_is_determined;
-
-/// A circuit that draws the flat net of a path that shows transfers follows them.
-pub fn paths_follow()
-    ensures { PathsFollow }
-{
-    circuits_are_drawn();
-    flat_nets_follow();
-}
 
 /// A circuit that draws a net has its pads, where the bits of the input pads are different nets.
 pub fn circuits_have_pads()
     ensures { CircuitsHavePads }
 {}
 
-/// The bits of the input pads of a path are different nets.
-pub fn inputs_are_apart()
-    ensures { InputsAreApart }
-{}
-
-/// Rectangles that draw the flat net of a path that shows the transfers are planned.
-pub fn plans_hold()
-    ensures { PlansHold }
-{
-    paths_follow();
-    circuits_have_pads();
-    inputs_are_apart();
-}
-
 /// An extracted network draws as a circuit the net that the network of the switches draws.
 pub fn networks_draw_circuits()
     ensures { NetworksDrawCircuits }
 {
     drawings_carry_over();
-}
-
-/// A flat net is a net as drawings have it.
-pub fn flats_are_drawable()
-    ensures { FlatsAreDrawable }
-{}
-
-/// From a path that shows the transfers, flat, to a chip that is planned.
-pub fn paths_are_planned()
-    ensures { PathsArePlanned }
-{
-    networks_draw_circuits();
-    flats_are_drawable();
-    plans_hold();
 }
 
 /// A fabric whose switches draw nets, with the labels on them, is that of each network that is extracted from its

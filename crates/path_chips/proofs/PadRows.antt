@@ -11,6 +11,8 @@ use Rattle.mp_base.specs.declared.pad.Pad.{Pad}
 use Rattle.mp_base.proofs.Entries.{map_get, contains_from_get, all_from}
 use Rattle.mp_base.proofs.Ranges.{get_range}
 use Rattle.mp_base.specs.PadBits.{bit_count}
+use Rattle.switch_net.specs.Pads.{labels_of}
+use Rattle.switch_net.proofs.Labels.{length_word_labels}
 use Rattle.nor_net.specs.declared.net.NetId.{NetId}
 use Rattle.nor_net.specs.Elements.{Spot, Given, spot}
 use Rattle.path_form.specs.declared.path.DataPath.{DataPath}
@@ -22,9 +24,12 @@ use Rattle.drawn_nets.specs.Law.{IsKind}
 use Rattle.chip_laws.specs.Laws.{AreRowsApart, AreRowsOf}
 use Rattle.chip_laws.specs.Rows.{AreFullRows, rows_at}
 use Rattle.chip_laws.proofs.Apart.{given, one_pad_bit}
-use Rattle.chip_laws.proofs.Flats.{length_labels}
 
 -- ---- one row
+
+length_labels : (p : List ℕ) (w : ℕ) → length (labels_of p w) ≡ bit_count w
+length_labels p zero = refl
+length_labels p (suc w) = length_word_labels p (suc w)
 
 bits_counted : (pad : Pad) → pad_bits pad ≡ bit_count pad.width
 bits_counted pad = by_width pad.width
