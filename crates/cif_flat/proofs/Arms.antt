@@ -40,10 +40,11 @@ use Rattle.cif_place.specs.Shaping.{IsBoxEdges, IsNearAt, IsFarAt, IsStraight, H
 use Rattle.cif_flat.specs.Sound.{Unsigned}
 use Rattle.cif_flat.specs.Refusing.{RefusesWalk, refusal_of}
 use Rattle.cif_flat.specs.Meeting.{was_met, is_name}
-use Rattle.cif_flat.specs.Walking.{frame_of, onto, IsNested, IsLevel, IsWalking, IsFound, IsVisit, IsAfter}
+use Rattle.cif_flat.specs.Walking.{frame_of, onto, IsNested, IsLevel, IsWalking, IsFound, IsVisit, IsAfter, AreNamed}
 use Rattle.cif_flat.proofs.Rules.{none, first3, first4, first5, first6, first7, first8, first9, first10}
 use Rattle.cif_form.proofs.WalkExamples.{never}
 use Rattle.cif_flat.proofs.Namings.{met_more}
+use Rattle.cif_flat.proofs.Ways.{named_met}
 use Rattle.cif_flat.proofs.Walks.{visit_at, stops, onward, each_last, left_next, level_of, arrive_named, arrive}
 use Rattle.cif_flat.proofs.Walks.{arrive_quiet}
 use Rattle.lam_geom.specs.Inside.{sides}
@@ -413,12 +414,14 @@ module _ (items : List Item) (w : Walker) (v : Level) (o : ℕ) where
     user_breaks_none k =
         none user_visit never never never never never never (λ b. omega (arith, b, k)) never never never
 
-    pub user_passed : w.count < walk_limit → IsFound items w v o digit text None → (new : Walker)
-        → new ≡ record w { count = w.count + 1; levels = new.levels }
+    pub user_passed : w.count < walk_limit → IsFound items w v o digit text None → (m : Walker)
+        → AreNamed items m.names w.met (w.levels.items ++ (v ∷ [])) → (new : Walker)
+        → new ≡ record w { names = m.names; count = w.count + 1; levels = new.levels }
         → new.levels.items ≡ w.levels.items ++ (onward v v.layer ∷ []) → IsAfter items w v new
-    user_passed k found new =
-        arrive_quiet items w v user_item h v.layer new refl (omega arith) (user_breaks_none k)
-        (inr (comment, refl, refl), refl) (λ b e. cc)
+    user_passed k found m noted new is =
+        arrive_named items w v user_item h v.layer [] [] 1 h.walking.names (record w { names = m.names }) h.walking.met
+        noted w.shapes w.labels new refl (omega arith) (omega arith) (user_breaks_none k)
+        (inr (comment, refl, refl), refl) (λ b e. cc) (sym (append-nil w.shapes)) (sym (append-nil w.labels)) is
       where
         comment : (label : FlatLabel) → IsLabelAt user_visit digit text label → ¬ IsNew user_visit label
         comment label at (inl e) =
@@ -430,12 +433,21 @@ module _ (items : List Item) (w : Walker) (v : Level) (o : ℕ) where
 
     pub user_labelled : w.count < walk_limit → (label : FlatLabel) → IsFound items w v o digit text (Some label)
         → (m : Walker) → ((q : List ℕ) → was_met m.met q ≡ (is_name label.name q || was_met w.met q))
+        → AreNamed items m.names w.met (w.levels.items ++ (v ∷ []))
         → (labels : List FlatLabel) → labels ≡ w.labels ++ (label ∷ []) → (new : Walker)
-        → new ≡ record w { met = m.met; labels = labels; count = w.count + 1; levels = new.levels }
+        → new ≡ record w {
+          names = m.names;
+          met = m.met;
+          labels = labels;
+          count = w.count + 1;
+          levels = new.levels;
+        }
         → new.levels.items ≡ w.levels.items ++ (onward v v.layer ∷ []) → IsAfter items w v new
-    user_labelled k label (at, new_name) m more labels el new =
+    user_labelled k label (at, new_name) m more noted labels el new =
         arrive_named items w v user_item h v.layer [] (label ∷ []) 1 (label.name ∷ h.walking.names) m
-        (met_more label.name h.walking.names w.met m.met h.walking.met more) w.shapes labels new refl (omega arith)
+        (met_more label.name h.walking.names w.met m.met h.walking.met more)
+        (named_met items m.names w.met (w.levels.items ++ (v ∷ [])) m.met label.name more noted) w.shapes
+        labels new refl (omega arith)
         (omega arith) (user_breaks_none k)
         (inl (label, at h.walking.definitions w.count h.walking.names (User digit text), is_new, refl, refl), refl)
         (λ b e. cc) (sym (append-nil w.shapes)) el

@@ -33,7 +33,10 @@ use Rattle.cif_place.specs.Turning.{IsTurned, IsHeldTurned, HasUneven}
 use Rattle.cif_flat.specs.Calling.{IsCallOf, AreCalls, IsCallAt, IsCalled}
 use Rattle.cif_flat.specs.Refusing.{RefusesWalk, refusal_of}
 use Rattle.cif_form.specs.Names.{way_into}
-use Rattle.cif_flat.specs.Naming.{name_of}
+use Rattle.cif_flat.specs.Naming.{name_of, way_of}
+use Rattle.cif_flat.specs.declared.names.Names.{Names}
+use Rattle.cif_flat.specs.Walking.{IsBehind, IsWayAt, AreNamed}
+use Rattle.cif_flat.proofs.Ways.{named_last, named_same, named_inside, named_behind, way_same}
 use Rattle.cif_flat.specs.Walking.{frame_of, symbol_of, onto, state_of, definition_of, IsNested, IsLevel, EachLevel}
 use Rattle.cif_flat.specs.Walking.{IsOpen, entered, Leads, IsWalking, IsVisit, rest, distance, IsAfter}
 use Rattle.cif_place.specs.Laws.{AfterPlaces, AfterHolds}
@@ -189,6 +192,8 @@ module _ (items : List Item) (w : Walker) (v : Level) (o : ℕ) (n : ℤ) (ts : 
 
       module _ (p : Placement) (a : IsCalled (scale_of v.ratio) ts s.ratio w.count (Ok p)) (held : IsHeld (2 ^ 104) p)
           (opened : BTreeMap ℕ ℕ)
+          (way : Option ℕ) (m : Names) (behind : IsBehind w.names.ways.items m.ways.items v.way s.named way)
+          (stepped : m ≡ record w.names { ways = m.ways; steps = m.steps })
           (here : get nat_cmp opened key ≡ Some (length w.levels.items + 1))
           (others : (k : ℕ) → k ≢ key → get nat_cmp opened k ≡ get nat_cmp w.opened k) (places : AfterPlaces)
           (holds : AfterHolds) where
@@ -196,7 +201,7 @@ module _ (items : List Item) (w : Walker) (v : Level) (o : ℕ) (n : ℤ) (ts : 
         outer_levels = w.levels.items ++ (onward v v.layer ∷ [])
 
         abbrev inner : Level
-        inner = entered v key s p
+        inner = entered v key s way p
 
         -- a number that is open keeps its depth
         still_open : (u : Level) (k : ℕ) → Contains all_levels u
@@ -260,6 +265,19 @@ module _ (items : List Item) (w : Walker) (v : Level) (o : ℕ) (n : ℤ) (ts : 
             (Contains-get_or w.levels.items k d m)) (stack_of items w v call_item h k d m)) level_out)
             level_in
 
+        named_in : AreNamed items m w.met (outer_levels ++ (inner ∷ []))
+        named_in =
+            let last = named_last items w.names w.met w.levels.items v h.walking.named in
+            let here = way_of items all_levels in
+            let out = onward v v.layer in
+            let b = named_behind items w.names w.met all_levels h.walking.named m v.way s.named way here last
+            behind stepped in
+            let g = named_same items m w.met w.levels.items out v refl refl b.0 in
+            named_inside items m w.met outer_levels g inner
+            (omega (arith, length-append w.levels.items (out ∷ [])))
+            (subst (λ z. IsWayAt b.0.ways way (way_into z (name_of items s.named)))
+            (way_same items w.levels.items v out refl) b.1)
+
         came_in : (let t = within call_visit (definition_of items key s) a.5.0 in
             t ≡ state_of items h.walking.definitions (w.count + 1) h.walking.names (outer_levels ++ (inner ∷ [])))
         came_in =
@@ -292,19 +310,32 @@ module _ (items : List Item) (w : Walker) (v : Level) (o : ℕ) (n : ℤ) (ts : 
             })
 
         pub call_entered : (new : Walker) (calls : BTreeMap ℕ Composed) → AreCalls items calls
-            → new ≡ record w { opened = opened; calls = calls; count = w.count + 1; levels = new.levels }
+            → new ≡ record w {
+              opened = opened;
+              calls = calls;
+              names = m;
+              count = w.count + 1;
+              levels = new.levels;
+            }
             → new.levels.items ≡ outer_levels ++ (inner ∷ []) → IsAfter items w v new
         call_entered new calls ac kept pushed =
             let leads = leads_step items w v call_item h [] [] (within call_visit (definition_of items key s) a.5.0)
             (none call_visit no_f1 no_f2 a.0 (no_f4 a.1 a.2) never never (λ k. omega (arith, k, a.3)) a.4 never never)
             (definition_of items key s, a.5.0, stands, a.5.1, refl, refl, refl) in
-            let mid : Walker = record w { opened = opened; calls = calls; count = w.count + 1; levels = new.levels } in
+            let mid : Walker = record w {
+              opened = opened;
+              calls = calls;
+              names = m;
+              count = w.count + 1;
+              levels = new.levels;
+            } in
             let walking : IsWalking items mid (outer_levels ++ (inner ∷ [])) = record {
               definitions = h.walking.definitions;
               table = h.walking.table;
               calls = ac;
               names = h.walking.names;
               met = h.walking.met;
+              named = named_in;
               leads = subst
                   (λ xs. Leads items xs w.labels
                   (state_of items h.walking.definitions (w.count + 1) h.walking.names (outer_levels ++ (inner ∷ []))))

@@ -1,6 +1,6 @@
 -- What is met at definitions and deletions.
-use Rattle.std.proofs.Common.{ℕ, suc, ◌≡◌, ◌+◌, ◌-◌, ◌*◌, ◌<◌, ◌≤◌, ◌⊎◌, refl, sym, ◌∙◌, ap, subst, arith, inl, inr, Option}
-use Rattle.std.proofs.Common.{List, [], ◌∷◌, ◌++◌, length, take, drop, get_or, map, All, append-nil, Bool, true, false}
+use Rattle.std.proofs.Common.{ℕ, suc, ◌≡◌, ◌+◌, ◌-◌, ◌*◌, ◌<◌, ◌≤◌, ◌⊎◌, refl, sym, ◌∙◌, ap, subst, arith, inl, inr}
+use Rattle.std.proofs.Common.{Option, List, [], ◌∷◌, ◌++◌, length, take, drop, get_or, map, All, append-nil, Bool, true, false}
 use Rattle.std.proofs.Common.{cond, Some, None}
 use Rattle.std.specs.Prelude.{◌≢◌, ℤ, pos, ◌≤ℤ◌, slice_get, slice_range, filter, int_lt}
 use Rattle.std.specs.BTreeMap.{BTreeMap, get}
@@ -28,6 +28,9 @@ use Rattle.cif_flat.specs.declared.level.Level.{Level}
 use Rattle.cif_place.specs.declared.ratio.Ratio.{Ratio}
 use Rattle.cif_flat.specs.declared.symbol.Symbol.{Symbol}
 use Rattle.cif_flat.specs.declared.walker.Walker.{Walker}
+use Rattle.cif_flat.specs.declared.names.Names.{Names}
+use Rattle.cif_flat.specs.Walking.{AreNamed}
+use Rattle.cif_flat.proofs.Ways.{named_same, named_first}
 use Rattle.cif_place.specs.Placing.{scale_of}
 use Rattle.cif_flat.specs.Sound.{AreClosed, Unsigned}
 use Rattle.cif_flat.specs.Refusing.{RefusesWalk, refusal_of}
@@ -222,9 +225,9 @@ rest_top : (vs : List Level) (u : Level) → vs ≡ [] → rest (vs ++ (u ∷ []
 rest_top vs u e = ap (λ ws. rest (ws ++ (u ∷ []))) e
 
 module _ (items : List Item) (w : Walker) (v : Level) (item : Item) (h : IsVisit items w v item)
-    (top : w.levels.items ≡ []) (u : Level) (n : ℕ) (symbols : BTreeMap ℕ Symbol) (ds : List Definition)
+    (top : w.levels.items ≡ []) (u : Level) (n : ℕ) (symbols : BTreeMap ℕ Symbol) (m : Names) (ds : List Definition)
     (table : IsTable items ds symbols) (level : IsLevel items (w.count + n) w.opened (length w.levels.items) u)
-    (room : w.count + n ≤ walk_limit) where
+    (room : w.count + n ≤ walk_limit) (noted : AreNamed items m w.met (w.levels.items ++ (u ∷ []))) where
   abbrev us : List Level
   us = w.levels.items ++ (u ∷ [])
 
@@ -235,7 +238,7 @@ module _ (items : List Item) (w : Walker) (v : Level) (item : Item) (h : IsVisit
         names = h.walking.names;
         frames = frame_of items (onto items w.levels.items []) u ∷ [];
       }
-      → (new : Walker) → new ≡ record w { symbols = symbols; count = w.count + n; levels = new.levels }
+      → (new : Walker) → new ≡ record w { symbols = symbols; names = m; count = w.count + n; levels = new.levels }
       → new.levels.items ≡ us
       → 2 * (walk_limit - (w.count + n)) + (u.end - u.next) < 2 * (walk_limit - w.count) + (v.end - v.next)
       → IsAfter items w v new
@@ -247,13 +250,14 @@ module _ (items : List Item) (w : Walker) (v : Level) (item : Item) (h : IsVisit
         names = h.walking.names;
         frames = sym (one_frame items w.levels.items u top) i;
       }) in
-      let mid : Walker = record w { symbols = symbols; count = w.count + n; levels = new.levels } in
+      let mid : Walker = record w { symbols = symbols; names = m; count = w.count + n; levels = new.levels } in
       let walking : IsWalking items mid us = record {
         definitions = ds;
         table = table;
         calls = h.walking.calls;
         names = h.walking.names;
         met = h.walking.met;
+        named = noted;
         leads =
             subst (λ xs. Leads items xs w.labels (state_of items ds (w.count + n) h.walking.names us))
             (append-nil w.shapes)
@@ -308,11 +312,13 @@ module _ (items : List Item) (w : Walker) (v : Level) (o : ℕ) (n : ℤ)
       (ap (λ vs. onto items vs []) top, refl, refl, refl) in
       let l = level_of items w v delete_item h in
       let table = table_cut items ds w.symbols symbols key h.walking.table below above in
-      came_top items w v delete_item h top (onward v v.layer) 1 symbols (filter (λ d. int_lt d.number n) ds)
+      came_top items w v delete_item h top (onward v v.layer) 1 symbols w.names (filter (λ d. int_lt d.number n) ds)
       (subst (λ m. IsTable items (filter (λ d. int_lt d.number m) ds) symbols) is table)
       (level_onward items w.count (w.count + 1) w.opened (length w.levels.items) v v.layer delete_item
       (omega arith) h.more left (λ b e. let f : Some b ≡ Some false = sym e in cc) l)
-      (omega arith) t leads refl new kept pushed (omega (arith, room, h.more))
+      (omega arith) (named_same items w.names w.met w.levels.items (onward v v.layer) v refl refl h.walking.named) t
+      leads
+      refl new kept pushed (omega (arith, room, h.more))
 
 -- ---- definitions
 
@@ -404,9 +410,11 @@ module _ (items : List Item) (w : Walker) (v : Level) (o : ℕ) (number a b : �
 
       pub defined : (symbols : BTreeMap ℕ Symbol) → get nat_cmp symbols key ≡ Some symbol
           → ((k : ℕ) → k ≢ key → get nat_cmp symbols k ≡ get nat_cmp w.symbols k)
-          → (new : Walker) → new ≡ record w { symbols = symbols; count = w.count + 0; levels = new.levels }
+          → (names : Names) → names ≡ record w.names { first = names.first }
+          → (new : Walker)
+          → new ≡ record w { symbols = symbols; names = names; count = w.count + 0; levels = new.levels }
           → new.levels.items ≡ w.levels.items ++ (resumed ∷ []) → IsAfter items w v new
-      defined symbols here others new kept pushed =
+      defined symbols here others names noted new kept pushed =
           let ds = h.walking.definitions in
           let l = level_of items w v start_item h in
           let m = level_later items w.count (w.count + 0) w.opened (length w.levels.items) v (omega arith) l in
@@ -452,9 +460,11 @@ module _ (items : List Item) (w : Walker) (v : Level) (o : ℕ) (number a b : �
             nested = closed;
             number = m.number;
           } in
-          came_top items w v start_item h start_top resumed 0 symbols (definition_of items key symbol ∷ ds)
+          came_top items w v start_item h start_top resumed 0 symbols names (definition_of items key symbol ∷ ds)
           (table_set items ds w.symbols symbols key symbol h.walking.table start_symbol here others) level
-          (omega (arith, limit)) t leads
+          (omega (arith, limit))
+          (named_same items names w.met w.levels.items resumed v refl refl
+          (named_first items w.names w.met (w.levels.items ++ (v ∷ [])) names noted h.walking.named)) t leads
           (λ i. record {
             definitions = same i;
             count = w.count + 0;

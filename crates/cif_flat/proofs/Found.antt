@@ -1,5 +1,6 @@
 -- What is found of a user command.
-use Rattle.std.proofs.Common.{ℕ, ◌≡◌, ◌≢◌, ◌<◌, ◌^◌, ◌⊎◌, inl, inr, refl, sym, ◌∙◌, ap, subst, List, [], ◌∷◌, ◌++◌, length, Option}
+use Rattle.std.proofs.Common.{ℕ, ◌≡◌, ◌≢◌, ◌<◌, ◌^◌, ◌⊎◌, inr, refl, sym, ◌∙◌, ap, subst, List}
+use Rattle.std.proofs.Common.{[], ◌∷◌, ◌++◌, length, Option}
 use Rattle.std.proofs.Common.{Some, None, arith, Bool, true, false, to_z, of_z, w64}
 use Rattle.std.specs.Bool.{OnTrue, OnFalse}
 use Rattle.std.specs.Prelude.{ℤ}

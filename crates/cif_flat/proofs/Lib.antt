@@ -7,5 +7,6 @@ pub mod Loop
 pub mod Words
 pub mod Reading
 pub mod Namings
+pub mod Ways
 pub mod Named
 pub mod Found

@@ -1,7 +1,8 @@
 -- The walk begins, goes back from a level that is done, and ends.
-use Rattle.std.proofs.Common.{ℕ, ◌≡◌, ◌-◌, ◌<◌, ◌≤◌, sym, ◌∙◌, ap, subst, arith, List, [], ◌∷◌, ◌++◌, length}
-use Rattle.std.proofs.Common.{append-nil, true, false, Some, None}
-use Rattle.std.specs.Prelude.{slice_range, nat_eq, Vec}
+use Rattle.std.proofs.Common.{ℕ, suc, ◌≡◌, ◌-◌, ◌<◌, ◌≤◌, refl, sym, ◌∙◌, ap, subst, arith, List, [], ◌∷◌, ◌++◌, length}
+use Rattle.std.proofs.Common.{take, get_or, append-nil, true, false, Some, None}
+use Rattle.std.specs.Prelude.{slice_range, slice_get, nat_eq, Vec}
+use Rattle.std.proofs.lemmas.Option.{slice_get_within}
 use Rattle.std.specs.List.{list_any}
 use Rattle.std.specs.HashSet.{HashSet}
 use Rattle.std.specs.Cmp.Lexicographic.{pointwise}
@@ -21,6 +22,9 @@ use Rattle.cif_flat.specs.declared.walker.Walker.{Walker}
 use Rattle.cif_flat.specs.Sound.{AreClosed}
 use Rattle.cif_flat.specs.Meeting.{was_met}
 use Rattle.cif_flat.specs.Walking.{frame_of, onto, state_of, top, IsLevel, Leads, IsWalking, distance}
+use Rattle.cif_flat.specs.Walking.{IsWayAt, AreNamed}
+use Rattle.cif_flat.specs.Naming.{way_of}
+use Rattle.cif_flat.proofs.Ways.{named_front}
 use Rattle.cif_place.specs.Laws.{HereLeaves}
 use Rattle.cif_flat.proofs.Walks.{onto_push, left_none, each_nil, each_front, each_push}
 
@@ -36,7 +40,9 @@ all_items : (items : List Item) → slice_range items 0 (length items) ≡ items
 all_items items = take_all (length items - 0) items (omega arith)
 
 module _ (items : List Item) (w : Walker) (closed : AreClosed false items) (symbols : w.symbols.entries ≡ [])
-    (calls : w.calls.entries ≡ []) (met : w.met.keys ≡ []) (count : w.count ≡ 0) (shapes : w.shapes ≡ []) (labels : w.labels ≡ [])
+    (calls : w.calls.entries ≡ []) (read : w.names.read.entries ≡ []) (ways : w.names.ways.items ≡ [])
+    (repeated : w.names.repeated.entries ≡ []) (met : w.met.keys ≡ []) (count : w.count ≡ 0) (shapes : w.shapes ≡ [])
+    (labels : w.labels ≡ [])
     (leaves : HereLeaves) where
   abbrev level : Level
   level = top (length items)
@@ -72,6 +78,22 @@ module _ (items : List Item) (w : Walker) (closed : AreClosed false items) (symb
     number = λ n e. let f : None ≡ Some n = e in cc;
   }
 
+  first_named : AreNamed items w.names w.met (level ∷ [])
+  first_named = record {
+    ways = [] ∷ [];
+    size = sym (ap (λ xs. suc (length xs)) ways);
+    root = refl;
+    steps = λ k s g.
+        let e : slice_get [] k ≡ Some s = sym (ap (λ xs. slice_get xs k) ways) ∙ g in
+        absurd (omega (arith, slice_get_within [] k s e));
+    repeated = λ k s g. absurd (let f : None ≡ Some s = sym (empty_table w.names.repeated repeated k) ∙ g in cc);
+    read = λ k l g o d text i. absurd (let f : None ≡ Some l = sym (empty_table w.names.read read k) ∙ g in cc);
+    levels = λ k d m.
+        let e : 0 ≡ k = omega (arith, m) in
+        subst (λ j. IsWayAt ([] ∷ []) (get_or (level ∷ []) j d).way (way_of items (take (suc j) (level ∷ [])))) e
+        ([], refl, refl);
+  }
+
   pub walking_start : (vs : List Level) → vs ≡ level ∷ [] → IsWalking items w vs
   walking_start vs is =
       let leads : Leads items [] [] (state_of items [] 0 [] (level ∷ [])) =
@@ -86,6 +108,7 @@ module _ (items : List Item) (w : Walker) (closed : AreClosed false items) (symb
         calls = λ k c g i s. absurd (let f : None ≡ Some c = sym (empty_table w.calls calls k) ∙ g in cc);
         names = [];
         met = λ q. ((λ c. absurd (nothing_in q c)), (λ c. absurd (none_met w.met met q c)));
+        named = first_named;
         leads = subst (λ n. Leads items w.shapes w.labels (state_of items [] n [] (level ∷ []))) (sym count)
             (subst (λ xs. Leads items xs w.labels (state_of items [] 0 [] (level ∷ []))) (sym shapes)
             (subst (λ ys. Leads items [] ys (state_of items [] 0 [] (level ∷ []))) (sym labels) leads));
@@ -108,6 +131,7 @@ same_walking items w vs new e h =
       calls = h.calls;
       names = h.names;
       met = h.met;
+      named = h.named;
       leads = h.leads;
       limit = h.limit;
       stack = h.stack;
@@ -122,6 +146,7 @@ module _ (items : List Item) (w : Walker) (vs : List Level) (v : Level) (h : IsW
     calls = h.calls;
     names = h.names;
     met = h.met;
+    named = named_front items w.names w.met vs v h.named;
     leads = λ rs ls e k. h.leads rs ls e
         (Walks.back (frame_of items (onto items vs []) v) (onto items vs []) (onto_push items vs v []) (left_none items v done) k);
     limit = h.limit;

@@ -1,15 +1,21 @@
 -- The first name in the commands of a symbol.
-use Rattle.std.proofs.Common.{ℕ, zero, suc, ◌≡◌, ◌+◌, ◌-◌, ◌<◌, ◌≤◌, refl, sym, ◌∙◌, ap, subst, arith, List, [], ◌∷◌, ◌++◌}
-use Rattle.std.proofs.Common.{length, take, drop, get_or, All, Option, Some, None, append_assoc}
-use Rattle.std.specs.Prelude.{slice_get, slice_range}
+use Rattle.std.proofs.Common.{ℕ, zero, suc, ◌≡◌, ◌+◌, ◌-◌, ◌<◌, ◌≤◌, refl, sym, ◌∙◌, ap, subst}
+use Rattle.std.proofs.Common.{arith, List, [], ◌∷◌, ◌++◌}
+use Rattle.std.proofs.Common.{length, take, drop, get_or, All, Option, Some, None, append_assoc, ◌⊎◌, inl, inr}
+use Rattle.std.specs.Prelude.{◌≢◌, slice_get, slice_range}
+use Rattle.std.specs.BTreeMap.{BTreeMap, get}
+use Rattle.std.specs.Ordering.{nat_cmp}
+use Rattle.std.proofs.lemmas.Bool.{cases_order}
+use Rattle.mp_base.proofs.Entries.{one_value}
 use Rattle.std.proofs.lemmas.Option.{get_or_from_slice_get}
 use Rattle.std.proofs.lemmas.List.{length-append, length-drop, take-append-drop, take-take, take_more, get_or-drop}
 use Rattle.std.proofs.lemmas.List.Elements.{All-head, All-tail, All-cons, All-nil, All-append}
-use Rattle.cif_form.specs.Text.{◌▹◌}
-use Rattle.cif_form.specs.Labels.{IsSpace, Spaces, Solid}
+use Rattle.cif_form.specs.Labels.{IsSpace}
 use Rattle.cif_form.specs.Names.{IsNameText, Names, IsSymbolName}
 use Rattle.cif_form.specs.declared.command.Item.{Item}
-use Rattle.cif_flat.specs.Labelling.{Begins, IsNextWord}
+use Rattle.cif_form.specs.Labels.{IsLabelText}
+use Rattle.cif_flat.specs.Labelling.{Begins, IsNextWord, IsLabelled, IsRead, AreRead, IsUserAt, label_written}
+use Rattle.cif_flat.specs.declared.label.Written.{Written}
 use Rattle.cif_flat.specs.declared.symbol.Naming.{Naming}
 use Rattle.cif_form.specs.declared.command.Command.TheVariants.{User, Finish}
 use Rattle.cif_form.specs.Expansion.{item_at}
@@ -65,6 +71,17 @@ word_at text word rest start end h e s =
     ap (λ n. take n (drop start text)) size ∙ ap (λ n. take (length word) (drop n text)) front
     ∙ ap (λ t. take (length word) (drop (length h.spaces) t)) h.split
     ∙ ap (take (length word)) (drop_front h.spaces (word ++ rest)) ∙ take_front word rest
+
+-- the same behind a first byte
+pub word_behind : (first : ℕ) (body word rest : List ℕ) (start end : ℕ) → IsNextWord body word rest
+    → end + length rest ≡ suc (length body) → start + length word ≡ end → slice_range (first ∷ body) start end ≡ word
+word_behind first body word rest zero end h e s =
+    let sizes = word_sizes body word rest h in absurd (omega (arith, e, s, sizes))
+word_behind first body word rest (suc start) zero h e s = absurd (omega (arith, s))
+word_behind first body word rest (suc start) (suc end) h e s =
+    let size : suc end - suc start ≡ end - start = omega arith in
+    ap (λ n. take n (drop start body)) size
+    ∙ word_at body word rest start end h (omega (arith, e)) (omega (arith, s))
 
 -- ---- names in commands
 
@@ -158,3 +175,38 @@ some_spanned items at offset text start end e h i f =
     subst (λ (k : Item). Names k.command
     (slice_range (text_of (get_or items at (item_at 0 Finish)).command) start end))
     (sym (names_of_view items at offset 9 text e i f)) (refl, subst (λ z. IsNameText z text) bytes h)
+
+-- ---- labels
+
+pub user_bytes : (items : List Item) (at : ℕ) (text : List ℕ) (n : Naming) → IsUserAt items at text → n.item ≡ at
+    → naming_bytes items n ≡ slice_range text n.start n.end
+user_bytes items at text n (o, d, e) i =
+    ap (λ k. slice_range (text_of (get_or items k (item_at 0 Finish)).command) n.start n.end) i
+    ∙ ap (λ (j : Item). slice_range (text_of j.command) n.start n.end)
+    (get_or_from_slice_get items at (item_at o (User d text)) (item_at 0 Finish) e)
+
+-- a label is read the same by another place of its name
+pub label_named : (items : List Item) (at : ℕ) (text : List ℕ) (l : Written) (first : Naming)
+    → IsUserAt items at text → IsLabelled at text (Some l) → naming_bytes items first ≡ naming_bytes items l.named
+    → IsLabelText (label_written (naming_bytes items first) l) text
+label_named items at text l first user is same =
+    subst (λ z. IsLabelText (label_written z l) text) (sym (same ∙ user_bytes items at text l.named user is.1)) is.0
+
+same_text : (o p d q : ℕ) (s t : List ℕ) → item_at o (User d s) ≡ item_at p (User q t) → s ≡ t
+same_text o p d q s t e = ap (λ (i : Item). text_of i.command) e
+
+pub reads_set : (items : List Item) (old new : BTreeMap ℕ (Option Written)) (at : ℕ) (l : Option Written)
+    (text : List ℕ) → AreRead items old → IsUserAt items at text → IsRead items text l
+    → get nat_cmp new at ≡ Some l → ((k : ℕ) → k ≢ at → get nat_cmp new k ≡ get nat_cmp old k) → AreRead items new
+reads_set items old new at l text a (o, d, e) r here others k m g p q t i = elim (cases_order k at) [
+  | inl f ↦
+      (let read : l ≡ m = one_value (get nat_cmp new at) l m here (ap (get nat_cmp new) (sym f) ∙ g) in
+      let item = same_item (item_at o (User d text)) (item_at p (User q t)) (slice_get items at) e
+      (ap (slice_get items) (sym f) ∙ i) in
+      subst (λ z. IsRead items z m) (same_text o p d q text t item) (subst (IsRead items text) read r))
+  | inr f ↦ a k m (sym (others k (apart k at f)) ∙ g) p q t i
+]
+  where
+    apart : (n k : ℕ) → (n < k) ⊎ (k < n) → n ≢ k
+    apart n k (inl l) e = omega (arith, l, e)
+    apart n k (inr l) e = omega (arith, l, e)

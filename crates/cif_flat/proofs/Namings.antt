@@ -1,5 +1,5 @@
 -- Names of labels: how they begin, and which were met.
-use Rattle.std.proofs.Common.{ℕ, ◌≡◌, ◌↔◌, inl, inr, refl, sym, ◌∙◌, ap, subst, List, [], ◌∷◌, ◌++◌, Bool, true, false, not}
+use Rattle.std.proofs.Common.{ℕ, ◌≡◌, inl, inr, refl, sym, ◌∙◌, ap, subst, List, [], ◌∷◌, ◌++◌, Bool, true, false, not}
 use Rattle.std.proofs.Common.{◌||◌, ◌&&◌, ◌+◌, ◌<◌, ◌≤◌, suc, length, take, drop, get_or, append_assoc, Option, Some, None}
 use Rattle.std.specs.Prelude.{Contains, Vec, nat_eq}
 use Rattle.std.specs.HashSet.{HashSet, PutsKey}
@@ -39,11 +39,11 @@ pub way_split : (items : List Item) (way : Option (List ℕ)) (vs us : List Leve
 way_split items way [] us = refl
 way_split items way (v ∷ vs) us = way_split items (way_into way (name_of items v.named)) vs us
 
-nowhere : (name : Option (List ℕ)) → way_into None name ≡ None
+pub nowhere : (name : Option (List ℕ)) → way_into None name ≡ None
 nowhere None = refl
 nowhere (Some name) = refl
 
-unnamed : (way : Option (List ℕ)) → way_into way None ≡ None
+pub unnamed : (way : Option (List ℕ)) → way_into way None ≡ None
 unnamed None = refl
 unnamed (Some way) = refl
 

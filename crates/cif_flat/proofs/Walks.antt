@@ -27,7 +27,8 @@ use Rattle.cif_place.proofs.Numbers.{within_more}
 use Rattle.cif_flat.specs.Sound.{AreClosed}
 use Rattle.cif_flat.specs.Refusing.{RefusesWalk, rule_of, refusal_of}
 use Rattle.cif_flat.specs.Walking.{frame_of, left_of, onto, state_of, visit_of, IsNested, IsLevel, EachLevel, Leads}
-use Rattle.cif_flat.specs.Walking.{AreMet, IsWalking, IsVisit, rest, distance, IsAfter}
+use Rattle.cif_flat.proofs.Ways.{named_same}
+use Rattle.cif_flat.specs.Walking.{AreMet, AreNamed, IsWalking, IsVisit, rest, distance, IsAfter}
 
 -- ---- frames
 
@@ -210,25 +211,41 @@ module _ (items : List Item) (w : Walker) (v : Level) (item : Item) (h : IsVisit
       (level_onward items w.count (w.count + n) w.opened (length w.levels.items) v l item (omega arith) h.more
       (left_next items v item h.more h.here) plain (level_of items w v item h))
 
-  -- `m` has the names that were met
+  -- `m` has the names that were met, and what is noted of names
   pub arrive_named : (names : List (List ℕ)) (m : Walker) → AreMet names m.met
+      → AreNamed items m.names m.met (w.levels.items ++ (v ∷ []))
       → (shapes : List Rect) (labels : List FlatLabel) (new : Walker) → n ≡ weight item.command → 0 < n
       → w.count + n ≤ walk_limit
       → BreaksNone (visit_at items w v item h)
       → Steps (visit_at items w v item h) qs ms (named names) → IsPlain
       → shapes ≡ w.shapes ++ qs → labels ≡ w.labels ++ ms
-      → new ≡ record w { met = m.met; shapes = shapes; labels = labels; count = w.count + n; levels = new.levels }
+      → new ≡ record w {
+        names = m.names;
+        met = m.met;
+        shapes = shapes;
+        labels = labels;
+        count = w.count + n;
+        levels = new.levels;
+      }
       → new.levels.items ≡ vs → IsAfter items w v new
-  arrive_named names m are shapes labels new wn some room none steps plain es el is pushed =
+  arrive_named names m are noted shapes labels new wn some room none steps plain es el is pushed =
       let leads = leads_step items w v item h qs ms (named names) none steps in
       let mid : Walker =
-      record w { met = m.met; shapes = shapes; labels = labels; count = w.count + n; levels = new.levels } in
+      record w {
+        names = m.names;
+        met = m.met;
+        shapes = shapes;
+        labels = labels;
+        count = w.count + n;
+        levels = new.levels;
+      } in
       let walking : IsWalking items mid vs = record {
         definitions = h.walking.definitions;
         table = h.walking.table;
         calls = h.walking.calls;
         names = names;
         met = are;
+        named = named_same items m.names m.met w.levels.items (onward v l) v refl refl noted;
         leads =
             subst (λ xs. Leads items xs labels (state_of items h.walking.definitions (w.count + n) names vs)) (sym es)
             (subst (λ ys. Leads items (w.shapes ++ qs) ys (state_of items h.walking.definitions (w.count + n) names vs))
@@ -255,7 +272,7 @@ module _ (items : List Item) (w : Walker) (v : Level) (item : Item) (h : IsVisit
       → shapes ≡ w.shapes ++ qs → labels ≡ w.labels ++ ms
       → new ≡ record w { shapes = shapes; labels = labels; count = w.count + n; levels = new.levels }
       → new.levels.items ≡ vs → IsAfter items w v new
-  arrive = arrive_named h.walking.names w h.walking.met
+  arrive = arrive_named h.walking.names w h.walking.met h.walking.named
 
 -- nothing is drawn
 pub arrive_quiet : (items : List Item) (w : Walker) (v : Level) (item : Item) (h : IsVisit items w v item)

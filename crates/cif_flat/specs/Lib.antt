@@ -3,5 +3,5 @@ pub mod Refusing
 pub mod Calling
 pub mod Naming
 pub mod Meeting
-pub mod Walking
 pub mod Labelling
+pub mod Walking

@@ -22,7 +22,11 @@ use Rattle.cif_flat.specs.declared.walker.Walker.{Walker}
 use Rattle.cif_place.specs.declared.ratio.Ratio.{Ratio}
 use Rattle.cif_place.specs.Placing.{IsFitRatio, scale_of, place_of, after, here, IsHeld}
 use Rattle.cif_flat.specs.Calling.{AreCalls}
-use Rattle.cif_flat.specs.Naming.{name_of}
+use Rattle.cif_flat.specs.Naming.{naming_bytes, name_of, way_of}
+use Rattle.cif_flat.specs.declared.symbol.Naming.{Naming}
+use Rattle.cif_flat.specs.declared.names.Step.{Step}
+use Rattle.cif_flat.specs.declared.names.Names.{Names}
+use Rattle.cif_flat.specs.Labelling.{AreRead}
 use Rattle.cif_flat.specs.Meeting.{was_met}
 use Rattle.cif_flat.specs.Sound.{AreClosed}
 
@@ -127,6 +131,7 @@ top size =
     record {
       symbol = None;
       named = None;
+      way = Some 0;
       ratio = record { a = pos 1; b = pos 1 };
       layer = None;
       placement = here;
@@ -147,10 +152,11 @@ abbrev pub IsOpen : List Level → ℕ → Type 0
 IsOpen vs n = (v : Level) × Contains vs v × (v.symbol ≡ Some n)
 
 -- the level of a called definition
-abbrev pub entered : Level → ℕ → Symbol → Placement → Level
-entered v n s p = record {
+abbrev pub entered : Level → ℕ → Symbol → Option ℕ → Placement → Level
+entered v n s way p = record {
   symbol = Some n;
   named = s.named;
+  way = way;
   ratio = s.ratio;
   layer = None;
   placement = after v.placement p;
@@ -164,6 +170,46 @@ entered v n s p = record {
 abbrev pub AreMet : {A S : Type 0} → List (List ℕ) → HashSet (Vec ℕ A) S → Type 0
 AreMet names met = (q : List ℕ) → Contains names q ↔ (was_met met q ≡ true)
 
+-- ---- ways by number
+
+-- the way behind a way and a name, where both are: it is among the new ways, which are the old ones or have it as last
+abbrev pub IsBehind : List Step → List Step → Option ℕ → Option Naming → Option ℕ → Type 0
+IsBehind old new None named None = new ≡ old
+IsBehind old new (Some way) None None = new ≡ old
+IsBehind old new (Some way) (Some naming) (Some (suc k)) =
+    (slice_get new k ≡ Some (record { way = way; naming = naming }))
+    × ((new ≡ old) ⊎ (new ≡ old ++ (record { way = way; naming = naming } ∷ [])))
+IsBehind old new _ _ _ = ⊥
+
+-- the way of the number is this one
+abbrev pub IsWayAt : List (List ℕ) → Option ℕ → Option (List ℕ) → Type 0
+IsWayAt ways None way = way ≡ None
+IsWayAt ways (Some n) way = (bytes : List ℕ) × (slice_get ways n ≡ Some bytes) × (way ≡ Some bytes)
+
+-- the way of the number is that of the step, and then its name
+abbrev pub IsStepAt : List Item → List (List ℕ) → ℕ → Step → Type 0
+IsStepAt items ways n s = (outer : List ℕ) × (slice_get ways s.way ≡ Some outer)
+    × (slice_get ways n ≡ Some (outer ++ (naming_bytes items s.naming ++ (47 ∷ []))))
+
+-- a label of that name behind that way was met
+abbrev pub IsMetAt : {A S : Type 0} → List Item → List (List ℕ) → HashSet (Vec ℕ A) S → Step → Type 0
+IsMetAt items ways met s = (outer : List ℕ) × (slice_get ways s.way ≡ Some outer)
+    × (was_met met (outer ++ naming_bytes items s.naming) ≡ true)
+
+-- what is noted of names is so, where these names of labels were met and these levels are walked
+pub record AreNamed {A S : Type 0} (items : List Item) (n : Names) (met : HashSet (Vec ℕ A) S) (vs : List Level) :
+    Type 0 where
+  pub ways : List (List ℕ)
+  pub size : length ways ≡ suc (length n.ways.items)
+  pub root : slice_get ways 0 ≡ Some []
+  pub steps : (k : ℕ) (s : Step) → slice_get n.ways.items k ≡ Some s → IsStepAt items ways (suc k) s
+  pub repeated : (k : ℕ) (s : Step) → get nat_cmp n.repeated k ≡ Some s → IsMetAt items ways met s
+  pub read : AreRead items n.read
+  pub levels : (k : ℕ) (d : Level) → k < length vs
+      → IsWayAt ways (slice_index_or vs k d).way (way_of items (take (suc k) vs))
+
+-- ---- the states of a walk
+
 -- a walk from this state on is one of the file, which draws these shapes and labels first
 abbrev pub Leads : List Item → List Rect → List FlatLabel → State → Type 0
 Leads items shapes labels t = (rs : List Rect) (ls : List FlatLabel) (e : WalkEnd) → Walks t rs ls e
@@ -176,6 +222,7 @@ pub record IsWalking (items : List Item) (w : Walker) (vs : List Level) : Type 0
   pub calls : AreCalls items w.calls
   pub names : List (List ℕ)
   pub met : AreMet names w.met
+  pub named : AreNamed items w.names w.met vs
   pub leads : Leads items w.shapes w.labels (state_of items definitions w.count names vs)
   pub limit : w.count ≤ walk_limit
   pub stack : EachLevel (IsLevel items w.count w.opened) vs

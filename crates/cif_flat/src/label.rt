@@ -1,6 +1,6 @@
 //! Labels.
 
-ghost use Rattle.std.specs.Prelude.{◌≡◌, ◌≢◌, ◌<◌, ◌≤◌, ◌^◌, ℕ, List, ℤ, Option, All, length, take, drop, slice_range, IfOk};
+ghost use Rattle.std.specs.Prelude.{◌≡◌, ◌≢◌, ◌<◌, ◌≤◌, ◌^◌, ℕ, List, ℤ, Option, All, length, take, drop, slice_range};
 ghost use Rattle.std.specs.Prelude.{◌↔◌, IsTrue, IfSome, IfNone};
 ghost use Rattle.lam_geom.specs.declared.layer.Layer.{Layer};
 ghost use Rattle.cif_form.specs.declared.limits.TheConstants.{NUMBER_LIMIT};
@@ -10,10 +10,19 @@ ghost use Rattle.cif_form.specs.Labels.{IsSpace, Coordinate};
 ghost use Rattle.cif_form.specs.Names.{IsNameText};
 ghost use Rattle.cif_flat.specs.Labelling.{IsLabelled, Begins, IsNextWord, Tail, IsLabelLayer};
 
+use crate::symbol::Naming;
 use cif_form::NUMBER_LIMIT;
-use lam_geom::{FlatLabel, Layer};
-use mp_base::{Name, is_digit};
-use std::alloc::{AllocError, Global};
+use lam_geom::Layer;
+use mp_base::is_digit;
+
+/// A label as it is written: where its name stands, its point in half-units of its symbol, and its layer.
+#[derive(Clone, Copy, Drop)]
+pub(crate) struct Written {
+    pub named: Naming,
+    pub x: i64,
+    pub y: i64,
+    pub layer: Option<Layer>,
+}
 
 fn is_space(byte: u8) -> bool
     ensures { IsTrue result ↔ IsSpace byte }
@@ -145,44 +154,43 @@ fn tail(text: &[u8]) -> Option<Option<Layer>>
     Some(Some(layer))
 }
 
-/// The label of the text of a user command, if it is one.
-pub(crate) fn label_of(
-    alloc: Global,
-    offset: u64,
-    text: &[u8],
-) -> Result<Option<FlatLabel>, AllocError>
-    ensures { IfOk result (IsLabelled offset text.now) }
+/// The label of the text of the user command at an index, if it is one.
+pub(crate) fn label_of(item: usize, text: &[u8]) -> Option<Written>
+    ensures { IsLabelled item text.now result }
 {
     let Some((first, rest)) = text.split_first() else {
-        return Ok(None);
+        return None;
     };
     if *first != b'4' {
-        return Ok(None);
+        return None;
     }
-    let Some((name, rest)) = next_word(rest) else {
-        return Ok(None);
+    let Some((name, behind)) = next_word(rest) else {
+        return None;
     };
-    let Some((across, rest)) = next_word(rest) else {
-        return Ok(None);
+    let Some((across, rest)) = next_word(behind) else {
+        return None;
     };
     let Some((up, rest)) = next_word(rest) else {
-        return Ok(None);
+        return None;
     };
     let Some(x) = coordinate(across) else {
-        return Ok(None);
+        return None;
     };
     let Some(y) = coordinate(up) else {
-        return Ok(None);
+        return None;
     };
     let Some(layer) = tail(rest) else {
-        return Ok(None);
+        return None;
     };
-    let name = Name::from_slice(alloc, name)?;
-    Ok(Some(FlatLabel {
-        offset,
-        name,
+    let end = text.len() - behind.len();
+    Some(Written {
+        named: Naming {
+            item,
+            start: end - name.len(),
+            end,
+        },
         x,
         y,
         layer,
-    }))
+    })
 }

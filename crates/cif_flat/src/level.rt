@@ -7,12 +7,14 @@ use crate::symbol::Naming;
 use cif_place::{Placement, Ratio};
 use lam_geom::Layer;
 
-/// A list of commands that is being walked: the body of a symbol, or the top level, which has no symbol. `named` is where
-/// the name of the symbol stands, if it has one. Its commands from `next` on and before `end` are left.
+/// A list of commands that is being walked: the body of a symbol, or the top level, which has no symbol. `named` is
+/// where the name of the symbol stands, if it has one, and `way` the number of the way that the names of labels begin
+/// with here, if they have one. Its commands from `next` on and before `end` are left.
 #[derive(Clone, Copy, Drop)]
 pub(crate) struct Level {
     pub symbol: Option<u64>,
     pub named: Option<Naming>,
+    pub way: Option<usize>,
     pub ratio: Ratio,
     pub layer: Option<Layer>,
     pub placement: Placement,
@@ -28,6 +30,7 @@ impl Level {
         Level {
             symbol: None,
             named: None,
+            way: Some(0),
             ratio: Ratio::unit(),
             layer: None,
             placement: Placement::here(),
@@ -44,6 +47,7 @@ impl Level {
         Level {
             symbol: self.symbol,
             named: self.named,
+            way: self.way,
             ratio: self.ratio,
             layer,
             placement: self.placement,
@@ -69,6 +73,7 @@ impl Level {
         Level {
             symbol: self.symbol,
             named: self.named,
+            way: self.way,
             ratio: self.ratio,
             layer: self.layer,
             placement: self.placement,

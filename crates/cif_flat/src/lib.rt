@@ -8,6 +8,7 @@ mod label;
 pub mod laws;
 mod layer;
 mod level;
+mod names;
 mod symbol;
 mod table;
 mod walker;

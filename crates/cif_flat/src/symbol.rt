@@ -1,6 +1,6 @@
 //! Definitions.
 
-ghost use Rattle.std.specs.Prelude.{◌≡◌, ◌<◌, ◌≤◌, length, slice_range};
+ghost use Rattle.std.specs.Prelude.{◌≡◌, ◌↔◌, ◌<◌, ◌≤◌, length, slice_range, IsTrue};
 ghost use Rattle.cif_flat.specs.Naming.{IsNamingAt, IsSymbolNaming, naming_bytes};
 
 use crate::label::name_span;
@@ -31,6 +31,19 @@ impl Naming {
             return &[];
         }
         &text[self.start..end]
+    }
+
+    /// Whether it is the same place.
+    pub(crate) fn is_same(self, other: Naming) -> bool
+        ensures { IsTrue result ↔ (self ≡ other) }
+    {
+        if self.item != other.item {
+            return false;
+        }
+        if self.start != other.start {
+            return false;
+        }
+        self.end == other.end
     }
 }
 

@@ -14,16 +14,17 @@ ghost use Rattle.cif_form.specs.declared.command.Command.TheVariants as commands
 ghost use Rattle.cif_list.specs.Turning.{wide_turn};
 ghost use Rattle.cif_flat.specs.Sound.{AreClosed};
 ghost use Rattle.cif_flat.specs.Walking.{EachLevel, IsNumbered, IsOpen, entered, IsBodySize, IsWalking, IsVisit};
-ghost use Rattle.cif_flat.specs.Walking.{IsAfter, IsFound, IsRepeated, IsFresh};
+ghost use Rattle.cif_flat.specs.Walking.{IsAfter, IsFound, IsRepeated, IsFresh, AreNamed};
+ghost use Rattle.cif_flat.specs.Labelling.{IsUserAt};
 ghost use Rattle.std.specs.Bool.{OnTrue, OnFalse};
 ghost use Rattle.cif_flat.specs.Refusing.{RefusesWalk};
 
 use crate::called::{Composed, placement_of, turned_at};
 use crate::fault::{Fault, broken};
 use crate::flat::Flat;
-use crate::label::label_of;
 use crate::layer::layer_named;
 use crate::level::Level;
+use crate::names::{Names, Step};
 use crate::symbol::{Symbol, naming_of};
 use crate::table::{Table, cut, found, set};
 use crate::way::{Met, is_met, joined, meet, way_to};
@@ -41,13 +42,15 @@ use poly_split::laws::fillings_are_laid;
 use std::alloc::{AllocError, Global};
 
 /// A walk of the items of a file: the definitions that stand, by number; the depth where each number was opened last;
-/// the turns of calls that were composed, by the index of the call; the names of labels that were met; the lists of
-/// commands that are being walked, the innermost last; and what was counted and drawn.
+/// the turns of calls that were composed, by the index of the call; the names of symbols and labels, and those of
+/// labels that were met; the lists of commands that are being walked, the innermost last; and what was counted and
+/// drawn.
 #[derive(Drop)]
 pub(crate) struct Walker {
     pub symbols: Table<Symbol>,
     pub opened: Table<usize>,
     pub calls: Table<Composed>,
+    pub names: Names,
     pub met: Met,
     pub levels: Vec<Level>,
     pub count: u64,
@@ -249,6 +252,7 @@ impl Walker {
         level: Level,
         number: u64,
         symbol: Symbol,
+        way: Option<usize>,
         placement: Placement,
     ) -> Result<(), AllocError>
         requires count { self.old.count < walk_limit }
@@ -258,7 +262,7 @@ impl Walker {
         ensures kept { OnOk result (self.new
             ≡ record self.old { opened = self.new.opened; count = self.old.count + 1; levels = self.new.levels }) }
         ensures pushed { OnOk result (self.new.levels.items ≡ (self.old.levels.items
-            ++ (record level { next = level.next + 1 } ∷ [])) ++ entered level number symbol placement ∷ []) }
+            ++ (record level { next = level.next + 1 } ∷ [])) ++ entered level number symbol way placement ∷ []) }
         ensures here { OnOk result (get nat_cmp self.new.opened number ≡ Some (length self.old.levels.items + 1)) }
         ensures others { OnOk result ((k : ℕ) → k ≢ number
             → get nat_cmp self.new.opened k ≡ get nat_cmp self.old.opened k) }
@@ -270,6 +274,7 @@ impl Walker {
         self.levels.push(Level {
             symbol: Some(number),
             named: symbol.named,
+            way,
             ratio: symbol.ratio,
             layer: None,
             placement: level.placement.after(placement),
@@ -304,7 +309,8 @@ impl Walker {
             Err(fault) => Err(broken(fault, offset)),
             Ok(placement) => {
                 placements_compose();
-                self.enter(level, number, symbol, placement)?;
+                let way = self.names.way_behind(level.way, symbol.named)?;
+                self.enter(level, number, symbol, way, placement)?;
                 Ok(())
             }
         }
@@ -312,6 +318,7 @@ impl Walker {
 
     fn define(
         &mut self,
+        alloc: Global,
         items: &Cif,
         level: Level,
         offset: u64,
@@ -325,9 +332,11 @@ impl Walker {
     {
         let first = level.next + 1;
         let end = first + body_size(items, first, level.end);
+        let named = naming_of(items, first, end);
+        let named = self.names.first_named(alloc, items, named)?;
         let symbol = Symbol {
             ratio: Ratio::of(a, b),
-            named: naming_of(items, first, end),
+            named,
             first,
             end,
         };
@@ -368,7 +377,7 @@ impl Walker {
 
     /// The label that a user command is, unless it is a comment.
     fn label_at(
-        &self,
+        &mut self,
         alloc: Global,
         items: &Cif,
         level: Level,
@@ -378,22 +387,38 @@ impl Walker {
     ) -> Result<Option<FlatLabel>, AllocError>
         requires fit { IsFitRatio level.ratio }
         requires held { IsHeld (2 ^ 104 * 8_000_000) level.placement }
-        ensures { IfOk result (IsFound items.now self.now level offset digit text.now) }
+        requires user { IsUserAt items.now level.next text.now }
+        requires named { AreNamed items.now self.old.names self.old.met (self.old.levels.items ++ level ∷ []) }
+        ensures found { IfOk result (IsFound items.now self.old level offset digit text.now) }
+        ensures named { OnOk result
+            (AreNamed items.now self.new.names self.old.met (self.old.levels.items ++ level ∷ [])) }
+        ensures kept { OnOk result (self.new ≡ record self.old { names = self.new.names }) }
     {
         if digit != 9 {
             return Ok(None);
         }
-        let Some(way) = way_to(alloc, items, &self.levels, level)? else {
+        let Some(way) = level.way else {
             return Ok(None);
         };
-        let Some(written) = label_of(alloc, offset, text)? else {
+        let Some(written) = self.names.label(alloc, items, level.next, text)? else {
             return Ok(None);
         };
         let Some(corner) = corner_at(level.ratio, level.placement, written.x, written.y) else {
             return Ok(None);
         };
-        let name = joined(way, written.name.bytes())?;
+        let step = Step {
+            way,
+            naming: written.named,
+        };
+        if self.levels.len() > 0 && self.names.is_repeated(step) {
+            return Ok(None);
+        }
+        let Some(bytes) = way_to(alloc, items, &self.levels, level)? else {
+            return Ok(None);
+        };
+        let name = joined(bytes, written.named.bytes(items))?;
         if self.is_repeated(name.bytes()) {
+            self.names.repeat(step)?;
             return Ok(None);
         }
         Ok(Some(FlatLabel {
@@ -459,7 +484,9 @@ impl Walker {
                 self.draw_wire(items, level, offset, Extent::of(width, width), path)
             }
             CommandView::Layer(name) => self.set_layer(items, level, offset, name),
-            CommandView::Start { number, a, b } => self.define(items, level, offset, number, a, b),
+            CommandView::Start { number, a, b } => {
+                self.define(alloc, items, level, offset, number, a, b)
+            }
             CommandView::Finish => unreachable!(),
             CommandView::Delete(number) => self.delete(items, level, offset, number),
             CommandView::Call { number, turns } => self.call(items, level, offset, number, turns),
@@ -481,6 +508,7 @@ impl Walker {
             symbols: Table::new(alloc),
             opened: Table::new(alloc),
             calls: Table::new(alloc),
+            names: Names::new(alloc),
             met: Met::new(alloc),
             levels,
             count: 0,

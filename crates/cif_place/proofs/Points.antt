@@ -41,6 +41,10 @@ laid_so false false false dx dy r = refl
 pub place_lays : (p : Placement) (r : Rect) → place_of p r ≡ laid_rect (laying_of p) r
 place_lays p r = laid_so p.swaps p.flips_x p.flips_y p.dx p.dy r
 
+pub all_lay : (p : Placement) (rs : List Rect) → map (laid_rect (laying_of p)) rs ≡ map (place_of p) rs
+all_lay p [] = refl
+all_lay p (r ∷ rs) = λ i. sym (place_lays p r) i ∷ all_lay p rs i
+
 abbrev IsLaidDot : Placement → Point → Type 0
 IsLaidDot p q = ((place_of p (dot q.x q.y)).x0 ≡ (laid_point (laying_of p) q).x)
     × ((place_of p (dot q.x q.y)).y0 ≡ (laid_point (laying_of p) q).y)
@@ -242,10 +246,6 @@ module _ (s : Scale) (w : Placement) where
       → All IsStraight (sides path) → All IsStraight (sides points)
   placed_straight = straight_carried (IsPlacedPoint s w) placed_keeps
 
-  map_places : (rs : List Rect) → map (laid_rect (laying_of w)) rs ≡ map (place_of w) rs
-  map_places [] = refl
-  map_places (r ∷ rs) = λ i. sym (place_lays w r) i ∷ map_places rs i
-
   -- what fills a placed polygon is placed of what fills the scaled one
   pub placed_of : FillingsAreLiftedBack → (l : Layer) (path points : List Point) (rs : List Rect)
       → AllZip (IsPlacedPoint s w) path points → All IsStraight (sides path) → Fills l points rs
@@ -255,7 +255,7 @@ module _ (s : Scale) (w : Placement) where
       let from = scaled_of path points z in
       let even = straight_carried (IsScaledPoint s) (scaled_straight s) path from.0 from.1 straight in
       let back = lifted (laying_of w) l from.0 rs even (subst (λ z. Fills l z rs) from.2 f) in
-      (from.0, back.0, from.1, back.1, sym back.2 ∙ map_places back.0)
+      (from.0, back.0, from.1, back.1, sym back.2 ∙ all_lay w back.0)
 
 -- a point of the path is near where it is scaled and placed
 pub placed_near : (s : Scale) (w : Placement) (path points : List Point) (p q : Point)

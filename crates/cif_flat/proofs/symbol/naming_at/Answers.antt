@@ -1,5 +1,4 @@
-use Rattle.std.proofs.Common.{◌≡◌, ◌∙◌, ap, sym, subst, arith, Some}
-use Rattle.std.specs.Prelude.{slice_get}
+use Rattle.std.proofs.Common.{◌≡◌, ◌∙◌, ap, arith, Some}
 use Rattle.cif_form.specs.declared.command.Command.TheVariants.{User}
 use Rattle.cif_form.specs.Expansion.{item_at}
 use Rattle.cif_list.specs.Showing.{command_shown}

@@ -1,4 +1,4 @@
-use Rattle.std.proofs.Common.{◌≡◌, ◌≤◌, sym, ap, subst, arith, Some, None}
+use Rattle.std.proofs.Common.{◌≡◌, subst, arith}
 use Rattle.std.specs.Prelude.{slice_range}
 use Rattle.cif_flat.specs.Naming.{IsNamingAt}
 use Rattle.cif_flat.proofs.Named.{NoneNamed, none_named, none_more, named_here}

@@ -1,4 +1,4 @@
-use Rattle.std.proofs.Common.{◌≡◌, ◌∙◌, ◌++◌, ◌∷◌, [], ap, arith}
+use Rattle.std.proofs.Common.{◌∙◌, ◌++◌, ◌∷◌, [], ap, arith}
 use Rattle.cif_flat.proofs.Namings.{way_unnamed, way_stops, way_more, way_ends}
 use Rattle.cif_flat.proofs.way.way_to.Goals as goal
 

@@ -53,5 +53,7 @@ returns-in_ok-enter-in-Ok-clause-ok c =
     (map wide_turn c.args.turns.now) c.requires c.key_of-number.result c.key_of-number.ensures c.in-Some.symbol
     (sym c.found.ensures ∙ c.in-Some.is) (λ o. false≢true (c.if-is_open.ensures.1 o)) c.in-Ok.placement a
     (c.in-Ok.ensures.held c.in_ok-turned.ensures.held)
-    c.enter.new.self.opened e.here e.others c.placements_compose.ensures.after c.placements_compose.ensures.held
+    c.enter.new.self.opened c.in_ok-way-in-Ok.way c.way_behind.new.self c.in_ok-way-in-Ok.ensures.behind
+    c.in_ok-way-in-Ok.ensures.kept
+    e.here e.others c.placements_compose.ensures.after c.placements_compose.ensures.held
     c.enter.new.self c.turned_at.new.calls c.in_ok-turned.ensures.calls e.kept e.pushed

@@ -1,4 +1,6 @@
-use Rattle.std.proofs.Common.{◌+◌, ◌<◌, ◌∙◌, ◌++◌, ◌∷◌, [], length, ap, arith, rules}
+use Rattle.std.proofs.Common.{◌+◌, ◌<◌, ◌∙◌, ◌++◌, ◌∷◌, [], length, ap, sym, subst, arith, rules}
+use Rattle.std.specs.Prelude.{slice_range}
+use Rattle.cif_form.specs.Names.{IsSymbolName}
 use Rattle.cif_flat.proofs.Walks.{level_of}
 use Rattle.cif_flat.proofs.Defines.{start_closed, start_number, body_room, defined}
 use Rattle.cif_flat.proofs.walker.Walker.define.Goals as goal
@@ -34,14 +36,19 @@ overflow_add-end-2 c =
 
 pub returns-clause-ok : goal.returns-clause-ok
 returns-clause-ok c =
+    let first = c.args.level.next + 1 in
     defined c.args.items.now c.args.self.now c.args.level c.args.offset c.args.number.now c.args.a.now c.args.b.now
     c.requires c.body_size.result c.body_size.ensures c.key_of.result c.key_of.ensures c.of.result
-    c.of.ensures c.naming_of.result c.naming_of.ensures c.set.new.table c.in_ok-set.ensures.here c.in_ok-set.ensures.others
+    c.of.ensures c.in_ok-named.named
+    (subst (IsSymbolName (slice_range c.args.items.now first (first + c.body_size.result)))
+    (sym c.in_ok-named.ensures.same) c.naming_of-named.ensures)
+    c.set.new.table c.in_ok-set.ensures.here c.in_ok-set.ensures.others
+    c.first_named.new.self c.in_ok-named.ensures.kept
     c.go_on.new.self c.in_ok-go_on.ensures.kept
     (c.in_ok-go_on.ensures.pushed ∙ ap (λ u. c.args.self.now.levels.items ++ u ∷ []) c.resumed.ensures)
 
-pub naming_of-requires-clause-within : goal.naming_of-requires-clause-within
-naming_of-requires-clause-within c =
+pub naming_of-named-requires-clause-within : goal.naming_of-named-requires-clause-within
+naming_of-named-requires-clause-within c =
     let r = body_room c.args.items.now c.args.self.now c.args.level c.args.offset c.args.number.now c.args.a.now
     c.args.b.now c.requires c.body_size.result c.body_size.ensures in
     let l = level_of c.args.items.now c.args.self.now c.args.level _ c.requires in

@@ -1,4 +1,4 @@
-use Rattle.std.proofs.Common.{ℕ, ◌≡◌, ◌+◌, ◌∙◌, ◌++◌, ◌∷◌, [], sym, ap, subst, arith, All}
+use Rattle.std.proofs.Common.{ℕ, ◌+◌, ◌∙◌, ◌++◌, ◌∷◌, [], sym, ap, subst, arith, All}
 use Rattle.lam_geom.specs.Inside.{sides}
 use Rattle.cif_place.specs.Placing.{scale_of}
 use Rattle.cif_place.specs.Pointing.{ArePlaced, IsDrawnPolygon}

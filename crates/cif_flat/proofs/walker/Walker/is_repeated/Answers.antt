@@ -1,4 +1,4 @@
-use Rattle.std.proofs.Common.{◌≡◌, ◌<◌, [], inl, arith, length}
+use Rattle.std.proofs.Common.{◌≡◌, [], inl, arith, length}
 use Rattle.std.proofs.lemmas.List.{nil_from_length}
 use Rattle.cif_flat.specs.Meeting.{was_met}
 use Rattle.cif_flat.proofs.Found.{yes_of, no_of}
