@@ -20,7 +20,7 @@ use Rattle.command_line.specs.App as app
 use Rattle.command_line.specs.Read.{read_met, read_named}
 use Rattle.command_line.proofs.Plain.{fed_level, level_plain, rows_plain, turn_plain, walk_stopped}
 use Rattle.command_line.proofs.Levels.{IsLevel, no, passes, read_at, ready, trace_level, compile_level, replay_level}
-use Rattle.command_line.proofs.Levels.{sim_level, net_level, stats_level, make_level}
+use Rattle.command_line.proofs.Levels.{sim_level, net_level, stats_level, make_level, rules_level}
 use Rattle.command_line.proofs.Links.{board_level}
 
 abbrev whole : App
@@ -147,6 +147,9 @@ board_exact words plain few = named_exact (ready app.board) (codes "board") word
 make_exact : (words : List Text) → list_any begins_with_dash words ≡ false → IsExact (codes "make" ∷ words)
 make_exact words plain = named_exact (ready app.make) (codes "make") words refl refl refl plain (make_level words)
 
+rules_exact : (words : List Text) → list_any begins_with_dash words ≡ false → IsExact (codes "rules" ∷ words)
+rules_exact words plain = named_exact (ready app.rules) (codes "rules") words refl refl refl plain (rules_level words)
+
 -- a name is this one, or what holds of the others holds of it
 either : (this name : Text) (words : List Text) → IsExact (this ∷ words)
     → (bytes_eq this name ≡ false → IsExact (name ∷ words)) → IsExact (name ∷ words)
@@ -166,8 +169,9 @@ each_name name words first plain few =
     either (codes "stats") name words (stats_exact words plain) (λ e5.
     either (codes "board") name words (board_exact words plain few) (λ e6.
     either (codes "make") name words (make_exact words plain) (λ e7.
-    unknown_exact name words first (rw (e0, e1, e2, e3, e4, e5, e6, e7) refl)
-    (rw (e0, e1, e2, e3, e4, e5, e6, e7) refl)))))))))
+    either (codes "rules") name words (rules_exact words plain) (λ e8.
+    unknown_exact name words first (rw (e0, e1, e2, e3, e4, e5, e6, e7, e8) refl)
+    (rw (e0, e1, e2, e3, e4, e5, e6, e7, e8) refl))))))))))
 
 pub exact : (words : List Text) → list_any begins_with_dash words ≡ false → length words ≤ usize_max → IsExact words
 exact [] plain few = none_exact

@@ -4,7 +4,7 @@ use Rattle.clap.specs.Kinds.{Kinds}
 use Rattle.clap.specs.Simple.{Shape, built_leaf, inherited}
 use Rattle.clap.specs.Walk.{Text, finished}
 use Rattle.clap.proofs.OnLiterals.{clap_on_literals}
-use Rattle.command_line.specs.Command.{Command, Trace, Compile, Replay, Sim, Net, Stats, make_of, one, two, three}
+use Rattle.command_line.specs.Command.{Command, Trace, Compile, Replay, Sim, Net, Stats, Rules, make_of, one, two, three}
 use Rattle.command_line.specs.App as app
 use Rattle.command_line.specs.Read.{read_named}
 use Rattle.command_line.proofs.Plain.{fed_end, fed_level}
@@ -73,6 +73,12 @@ unfolding clap_on_literals
 stats_level [] = (no, λ e. refl)
 stats_level (a ∷ []) = (λ e. refl, not_so)
 stats_level (a ∷ b ∷ rest) = (no, λ e. refl)
+
+pub rules_level : (words : List Text) → IsLevel (ready app.rules) words (one Rules words)
+unfolding clap_on_literals
+rules_level [] = (no, λ e. refl)
+rules_level (a ∷ []) = (λ e. refl, not_so)
+rules_level (a ∷ b ∷ rest) = (no, λ e. refl)
 
 pub make_level : (words : List Text) → IsLevel (ready app.make) words (make_of words)
 unfolding clap_on_literals

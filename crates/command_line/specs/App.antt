@@ -44,6 +44,9 @@ board = record (new_shape (codes "board")) {
 abbrev pub make : Shape
 make = form (codes "make") (codes "number" ∷ codes "cif" ∷ [])
 
+abbrev pub rules : Shape
+rules = form (codes "rules") (codes "cif" ∷ [])
+
 -- a command without subcommands
 abbrev pub alone : Shape → App
 alone shape = record { top = shape; subs = [] }
@@ -63,7 +66,7 @@ top = record bare_top { is_leaf = false }
 
 -- the program with its forms
 abbrev pub app : App
-app = record { top = top; subs = trace ∷ compile ∷ replay ∷ sim ∷ net ∷ stats ∷ board ∷ make ∷ [] }
+app = record { top = top; subs = trace ∷ compile ∷ replay ∷ sim ∷ net ∷ stats ∷ board ∷ make ∷ rules ∷ [] }
 
 -- a command that is a form, and has nothing for commands below it
 pub record IsForm (form : Shape) (command : Command) : Type 0 where

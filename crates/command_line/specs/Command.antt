@@ -20,6 +20,7 @@ pub data Command : Type 0 where
   Stats : (source : List ℕ) → Command
   Board : (source cif : List ℕ) (clocks : ℕ) (links : List (List ℕ)) → Command
   Make : (number : ℕ) (cif : List ℕ) → Command
+  Rules : (cif : List ℕ) → Command
 
 abbrev pub begins_with_dash : List ℕ → Bool
 begins_with_dash [] = false
@@ -80,6 +81,7 @@ form_named name words =
     else if bytes_eq (codes "stats") name then one Stats words
     else if bytes_eq (codes "board") name then board_of words
     else if bytes_eq (codes "make") name then make_of words
+    else if bytes_eq (codes "rules") name then one Rules words
     else None
 
 -- the command that words stand for, where none begins with a dash
@@ -103,3 +105,4 @@ seen (rust_variants.Net cif) = Net cif.now
 seen (rust_variants.Stats source) = Stats source.now
 seen (rust_variants.Board source cif clocks links) = Board source.now cif.now clocks (map string_bytes links.now)
 seen (rust_variants.Make number cif) = Make number cif.now
+seen (rust_variants.Rules cif) = Rules cif.now

@@ -9,7 +9,7 @@ use Rattle.clap.specs.declared.ArgMatches.{ArgMatches}
 use Rattle.clap.specs.declared.Error.{Error}
 use Rattle.clap.specs.declared.error.ErrorKind.{ErrorKind}
 use Rattle.clap.specs.declared.error.ErrorKind.TheVariants.{OutOfMemory}
-use Rattle.command_line.specs.Command.{Command, Trace, Compile, Replay, Sim, Net, Stats, board_for, make_for}
+use Rattle.command_line.specs.Command.{Command, Trace, Compile, Replay, Sim, Net, Stats, Rules, board_for, make_for}
 
 -- a command of the word that an id took
 abbrev pub read_one : (Text → Command) → Text → List Row → Option Command
@@ -46,6 +46,7 @@ read_named links name rows =
     else if bytes_eq name (codes "stats") then read_one Stats (codes "source") rows
     else if bytes_eq name (codes "board") then read_board links rows
     else if bytes_eq name (codes "make") then read_make rows
+    else if bytes_eq name (codes "rules") then read_one Rules (codes "cif") rows
     else None
 
 -- the command of the subcommand that was met, and the words behind the fourth

@@ -84,5 +84,6 @@ pub fn app<'a>(alloc: Global) -> Result<Command<'a>, AllocError>
     let net = with_form(alloc, sim, "net", &["cif"])?;
     let stats = with_form(alloc, net, "stats", &["source"])?;
     let board = with_board(alloc, stats)?;
-    with_form(alloc, board, "make", &["number", "cif"])
+    let make = with_form(alloc, board, "make", &["number", "cif"])?;
+    with_form(alloc, make, "rules", &["cif"])
 }

@@ -28,6 +28,7 @@ pub enum Command<'a> {
     Stats(&'a str),
     Board(&'a str, &'a str, u32, &'a [String]),
     Make(u64, &'a str),
+    Rules(&'a str),
 }
 
 fn begins_with_dash(word: &str) -> bool

@@ -111,6 +111,12 @@ fn make<'a>(matches: &ArgMatches<'a>) -> Option<Command<'a>>
     Some(Command::Make(seed(number)?, cif))
 }
 
+fn rules<'a>(matches: &ArgMatches<'a>) -> Option<Command<'a>>
+    ensures { option_map seen result ≡ read_one spec.Rules (codes "cif") (rows_of (found_of matches.now)) }
+{
+    Some(Command::Rules(text(matches, "cif")?))
+}
+
 // The command that the matches of a subcommand hold, by its name, and the words behind the fourth.
 fn command_in<'a>(name: &str, matches: &ArgMatches<'a>, links: &'a [String]) -> Option<Command<'a>>
     ensures { option_map seen result
@@ -132,6 +138,8 @@ fn command_in<'a>(name: &str, matches: &ArgMatches<'a>, links: &'a [String]) -> 
         board(matches, links)
     } else if name == "make" {
         make(matches)
+    } else if name == "rules" {
+        rules(matches)
     } else {
         None
     }

@@ -6,4 +6,4 @@ mod limits;
 mod masks;
 
 pub use limits::MASK_LIMIT;
-pub use masks::read_network;
+pub use masks::{read_drawing, read_network};

@@ -1,5 +1,5 @@
 -- Steps from the bytes to the network.
-use Rattle.std.proofs.Common.{◌≡◌, ℕ, List, inl, inr, sym, subst, Option, Some, None, Result, Ok, Err}
+use Rattle.std.proofs.Common.{◌≡◌, ℕ, List, inl, inr, sym, subst, Option, Some, Result, Ok, Err}
 use Rattle.extractor.specs.Extracted.{OfShapes}
 use Rattle.std.proofs.lemmas.List.Elements.{Contains-append_left}
 use Rattle.std.specs.Prelude.{flat_map, IsErrAnd}

@@ -25,7 +25,7 @@ use Rattle.switch_net.specs.Drawn.{IsNetwork}
 use Rattle.switch_net.specs.Laws as nets
 use Rattle.mask_laws.specs.Laws.{NetworkBySquares, FirstBySquares}
 use Rattle.extractor.specs.Extracted.{IsExtracted}
-use Rattle.mask_net.specs.Masks.{IsCif, IsDrawing, IsNetOf, BreaksDrawing, BreaksMask, OfMask}
+use Rattle.mask_net.specs.Masks.{IsCif, IsDrawing, IsNetOf, BreaksDrawing, BreaksMask, OfDrawing, OfMask}
 
 -- the laws of the crates below
 pub record Laws : Type 0 where
@@ -188,3 +188,29 @@ module _ (laws : Laws) (bytes : List ℕ) where
       (one_of_stages (BreaksMask bytes) NetStage (one_of_mask first) (λ c o mask rest. no_network c rest.1 mask rest.2)
       (λ c d e f. e.0 ∙ sym f.0)))
       a b (staged a x) (staged b y)
+
+  -- ---- the verdict on texts and drawing alone
+
+  abbrev DrawnStage : Option Broken → Type 0
+  DrawnStage o = (o ≡ None) × (shapes : List Rect) × (labels : List FlatLabel) × IsDrawing bytes shapes labels
+
+  abbrev OnlyDrawing : Option Broken → Type 0
+  OnlyDrawing = Stage (BreaksDrawing bytes) DrawnStage
+
+  cif_of : (o : Option Broken) → OnlyDrawing o → (items : List Item) × IsCif bytes items
+  cif_of None x = (x.3.commands, x.3.cif)
+  cif_of (Some b) (inl (items, cif, broken)) = (items, cif)
+  cif_of (Some b) (inr x) = (x.3.commands, x.3.cif)
+
+  drawing_staged : (o : Option Broken) → OfDrawing bytes o
+      → Stage (λ b. RefusesText bytes (refusals.Broken b)) OnlyDrawing o
+  drawing_staged None x = (refl, x.0, x.1, x.2)
+  drawing_staged (Some b) (inl x) = inl x
+  drawing_staged (Some b) (inr x) = inr (inl x)
+
+  pub one_drawing_verdict : IsDetermined (OfDrawing bytes)
+  one_drawing_verdict a b x y =
+      one_of_stages _ OnlyDrawing one_of_text (λ c o text rest. let d = cif_of o rest in no_cif c d.0 text d.1)
+      (one_of_stages (BreaksDrawing bytes) DrawnStage one_of_drawing
+      (λ c o drawing rest. no_drawing c rest.1 rest.2 drawing rest.3) (λ c d e f. e.0 ∙ sym f.0))
+      a b (drawing_staged a x) (drawing_staged b y)

@@ -7,7 +7,7 @@ use Rattle.lam_geom.specs.declared.label.FlatLabel.{FlatLabel}
 use Rattle.lam_geom.specs.Squares.{covered}
 use Rattle.switch_net.specs.declared.network.Network.{Network}
 use Rattle.switch_net.specs.Breaks.{IsSoundMask}
-use Rattle.mask_net.specs.Masks.{IsDrawing, IsNetOf, OfMask}
+use Rattle.mask_net.specs.Masks.{IsDrawing, IsNetOf, OfDrawing, OfMask}
 
 -- bytes draw at most one network
 abbrev pub OneNetwork : Type 0
@@ -16,6 +16,10 @@ OneNetwork = (bytes : List ℕ) (n m : Network) → IsNetOf bytes n → IsNetOf 
 -- bytes break no rule, or have one first broken rule at one place
 abbrev pub OneVerdict : Type 0
 OneVerdict = (bytes : List ℕ) (a b : Option Broken) → OfMask bytes a → OfMask bytes b → a ≡ b
+
+-- bytes break no rule of texts or of drawing, or have one that is first
+abbrev pub OneDrawingVerdict : Type 0
+OneDrawingVerdict = (bytes : List ℕ) (a b : Option Broken) → OfDrawing bytes a → OfDrawing bytes b → a ≡ b
 
 -- where what the bytes draw breaks no rule with some pads either, they draw its network
 abbrev pub SoundWithPads : Type 0

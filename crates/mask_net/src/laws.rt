@@ -1,6 +1,6 @@
 //! Laws of CIF files and their networks: a call of one does nothing, and tells the caller's proof what it ensures.
 
-ghost use Rattle.mask_net.specs.Laws.{OneNetwork, OneVerdict, SoundWithPads};
+ghost use Rattle.mask_net.specs.Laws.{OneNetwork, OneVerdict, OneDrawingVerdict, SoundWithPads};
 
 use cif_form::laws::{scan_is_unique, walk_is_unique};
 use mask_laws::laws::squares_tell_masks;
@@ -25,6 +25,16 @@ pub fn one_verdict()
     network_is_determined();
     squares_tell_masks();
     first_rule_is_determined();
+}
+
+/// A file breaks no rule of texts and drawing, or has one first broken rule of these at one place.
+pub fn one_drawing_verdict()
+    ensures { OneDrawingVerdict }
+{
+    scan_is_unique();
+    walk_is_unique();
+    network_is_determined();
+    squares_tell_masks();
 }
 
 /// A file whose mask is sound with some pads draws the mask's network.

@@ -14,4 +14,5 @@ returns c =
     let net = one_more_form c.in_ok-sim.sim spec.net _ sim c.in_ok-net.net c.in_ok-net.ensures in
     let stats = one_more_form c.in_ok-net.net spec.stats _ net c.in_ok-stats.stats c.in_ok-stats.ensures in
     let board = one_more_form c.in_ok-stats.stats spec.board _ stats c.in_ok-board.board c.in_ok-board.ensures in
-    IfOk-weaker c.with_form-7.result _ _ (one_more_form c.in_ok-board.board spec.make _ board) c.with_form-7.ensures
+    let make = one_more_form c.in_ok-board.board spec.make _ board c.in_ok-make.make c.in_ok-make.ensures in
+    IfOk-weaker c.with_form-8.result _ _ (one_more_form c.in_ok-make.make spec.rules _ make) c.with_form-8.ensures

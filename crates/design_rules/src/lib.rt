@@ -1,0 +1,6 @@
+//! The lambda rules, judged.
+#![tactic(auto)]
+
+mod judging;
+
+pub use judging::{Verdict, judge};

@@ -1,0 +1,7 @@
+//! The verdict of the lambda rules on masks.
+#![tactic(auto)]
+
+mod command;
+mod line;
+
+pub use command::rules;
