@@ -1,31 +1,88 @@
--- How a board ends that stored nothing.
-use Rattle.std.proofs.Common.{◌≡◌, ℕ, List, [], refl, sym, subst, Option, Some, None, Result, Ok, Err, IfSome}
+-- How a board ends, and whether printing had begun.
+use Rattle.std.proofs.Common.{◌≡◌, ◌∙◌, ◌≤◌, ℕ, List, [], refl, sym, subst, inl, inr, Option, Some, None, Result, Ok}
+use Rattle.std.proofs.Common.{Err, IfSome}
 use Rattle.std.specs.Prelude.{IsErrAnd}
-use Rattle.outside.specs.Outside.{Files, WhereTold, Keeps, Gains}
+use Rattle.mp_base.specs.declared.refusal.Refusal.{Refusal}
+use Rattle.mp_base.specs.declared.refusal.Refusal.TheVariants as refusals
+use Rattle.outside.specs.Outside.{Files, Rose, bytes_of, WhereTold, Keeps, Gains}
 use Rattle.outside.proofs.Told.{gains_nothing}
-use Rattle.outcome.specs.Order.{Breaks}
-use Rattle.outcome.specs.World.{World, Leaves}
-use Rattle.outcome.specs.Halt.{EndsBy}
+use Rattle.outcome.specs.Order.{Breaks, Fault}
+use Rattle.outcome.specs.World.{World, Leaves, PrintFailed}
+use Rattle.outcome.specs.Halt.{EndsBy, halt_of}
 use Rattle.outcome.specs.declared.halt.Halt.{Halt}
 use Rattle.outcome.specs.declared.halt.Halt.TheVariants.{Refused, ReadFault, WriteFault, NoMemory}
 use Rattle.stages.proofs.Ending.{OnlyReads, ends_since, leaves_on}
 use Rattle.board.specs.Face.{Face}
-use Rattle.board_command.specs.Parts.{Lent}
-use Rattle.board_command.specs.Work.{work, Rests}
+use Rattle.board_command.specs.Parts.{Lent, AreMoved}
+use Rattle.board_command.specs.Work.{work, WhereBegun}
 use Rattle.board_command.specs.Shown.{Boards}
 
--- no part moves but where a write failed
-pub rests : {P : Type 0} (faces : List P) (result : Result (Unit {0}) Halt) → Rests faces faces result
-rests faces (Ok v) = tt
-rests faces (Err (Refused broken)) = refl
-rests faces (Err ReadFault) = refl
-rests faces (Err WriteFault) = tt
-rests faces (Err NoMemory) = refl
+-- ---- where printing has begun
 
-pub rests_cut : {P : Type 0} (faces left : List P) (result : Result (Unit {0}) Halt)
-    → IsErrAnd result (λ e. e ≡ WriteFault) → Rests faces left result
-rests_cut faces left (Ok v) is = tt
-rests_cut faces left (Err e) is = subst (λ h. Rests {T = Unit {0}} faces left (Err h)) (sym is) tt
+-- it had not, where work ended otherwise than by a failed write
+pub rests : {P : Type 0} (Q : Type 0) (parts : List P) (halt : Halt) (result : Result (Unit {0}) Halt)
+    (before after : World) → IsErrAnd result (λ e. e ≡ halt) → (halt ≡ WriteFault → ⊥) → WhereBegun result before after Q (parts ≡ parts)
+rests Q parts halt (Ok v) before after is other = absurd is
+rests Q parts halt (Err e) before after is other =
+    subst (λ h. WhereBegun {T = Unit {0}} (Err h) before after Q (parts ≡ parts)) (sym is) (by halt other)
+  where
+    by : (h : Halt) → (h ≡ WriteFault → ⊥) → WhereBegun {T = Unit {0}} (Err h) before after Q (parts ≡ parts)
+    by (Refused broken) other = refl
+    by ReadFault other = refl
+    by WriteFault other = absurd (other refl)
+    by NoMemory other = refl
+
+pub ends_unwritten : (First : Files → Option Fault → Type 0) (files : Option Files) (r r' : ℕ) (halt : Halt)
+    → EndsBy First files r r' halt → halt ≡ WriteFault → ⊥
+ends_unwritten First files r r' halt ends is = subst (EndsBy First files r r') is ends
+
+pub refused_unwritten : (refusal : Refusal) → halt_of refusal ≡ WriteFault → ⊥
+refused_unwritten (refusals.Broken broken) is = cc
+refused_unwritten refusals.NoMemory is = cc
+
+pub wanting_unwritten : NoMemory ≡ WriteFault → ⊥
+wanting_unwritten is = cc
+
+pub begun_map : {T P Q R S : Type 0} (result : Result T Halt) (before after : World) → (P → R) → (Q → S)
+    → WhereBegun result before after P Q → WhereBegun result before after R S
+begun_map (Ok v) before after f g h = f h
+begun_map (Err (Refused broken)) before after f g h = g h
+begun_map (Err ReadFault) before after f g h = g h
+begun_map (Err WriteFault) before after f g (inl (failed, h)) = inl (failed, f h)
+begun_map (Err WriteFault) before after f g (inr (failed, h)) = inr (failed, g h)
+begun_map (Err NoMemory) before after f g h = g h
+
+-- a print failed, which was passed on
+pub begun_cut : (P Q : Type 0) (result : Result (Unit {0}) Halt) (before after : World)
+    → IsErrAnd result (λ e. e ≡ WriteFault) → PrintFailed before after → P → WhereBegun result before after P Q
+begun_cut P Q (Ok v) before after is failed p = absurd is
+begun_cut P Q (Err e) before after is failed p =
+    subst (λ h. WhereBegun {T = Unit {0}} (Err h) before after P Q) (sym is) (inl (failed, p))
+
+-- files were read before
+pub begun_since : {T : Type 0} (P Q : Type 0) (result : Result T Halt) (before middle after : World)
+    → OnlyReads before middle → WhereBegun result middle after P Q → WhereBegun result before after P Q
+begun_since P Q (Ok v) before middle after only h = h
+begun_since P Q (Err (Refused broken)) before middle after only h = h
+begun_since P Q (Err ReadFault) before middle after only h = h
+begun_since P Q (Err WriteFault) before middle after only (inl (why, h)) = inl (
+  record {
+    later = subst (λ n. n ≤ after.prints) only.prints why.later;
+    failed = subst (λ n. Rose n after.prints) only.prints why.failed;
+    writes = why.writes ∙ only.writes;
+  },
+  h,
+)
+begun_since P Q (Err WriteFault) before middle after only (inr (why, h)) = inr (
+  record {
+    later = subst (λ n. n ≤ after.writes) only.writes why.later;
+    failed = subst (λ n. Rose n after.writes) only.writes why.failed;
+    prints = why.prints ∙ only.prints;
+    text = why.text ∙ only.text;
+  },
+  h,
+)
+begun_since P Q (Err NoMemory) before middle after only h = h
 
 module _ (lent : Lent) (source cif : List ℕ) (clocks : ℕ) (words : List (List ℕ)) where
   -- what is left of files that were only read is left of those at entry
@@ -43,7 +100,8 @@ module _ (lent : Lent) (source cif : List ℕ) (clocks : ℕ) (words : List (Lis
       since None = tt
       since (Some files) = λ new printed told. (
         ends_since before middle after only (work lent source cif clocks words) files new printed result told.0,
-        told.1,
+        begun_since (AreMoved lent (bytes_of files source) words clocks printed left) (left ≡ lent.faces) result before
+            middle after only told.1,
       )
 
   halted_told : (halt : Halt) (before after : World) (x y : Option Files) (r r' : ℕ) → Keeps x y

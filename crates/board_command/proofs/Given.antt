@@ -12,20 +12,22 @@ use Rattle.outcome.specs.declared.halt.Halt.{Halt}
 use Rattle.outcome.specs.declared.halt.Halt.TheVariants.{WriteFault}
 use Rattle.stages.specs.Stages.{second}
 use Rattle.board.specs.Face.{Face}
-use Rattle.board.specs.Loop.{Wired, faces_along}
-use Rattle.board_run.specs.Boarded.{IsBoarded, PrintsBoard, whole_lines}
+use Rattle.board.specs.Loop.{Wired, Exchange, faces_with}
+use Rattle.board_run.specs.Boarded.{IsBoardedWith, PrintsBoardWith, whole_lines}
 use Rattle.board_command.specs.Parts.{AreLeft}
-use Rattle.board_command.specs.Work.{Plays}
+use Rattle.board_command.specs.Work.{Plays, WhereBegun}
 
-module _ (cif chip : List ℕ) (network : Network) (w : Wired) (clocks : ℕ) (faces : List Face) where
+-- the parts that are lent, and those that are left when the parts of swaps are taken out
+module _ (cif chip : List ℕ) (swaps : List Exchange) (network : Network) (w : Wired) (clocks : ℕ)
+    (lent faces : List Face) where
   abbrev Stage : Work
-  Stage = second (Some cif) (Plays chip network w clocks faces)
+  Stage = second (Some cif) (Plays chip swaps network w clocks faces)
 
   -- what is given to the files and the output, and how the parts are left
   abbrev pub Given : List Face → Result (Unit {0}) Halt → World → World → Files → Files → List ℕ → Type 0
   Given left result before after old new printed =
-      Ends (second (Some cif) (Plays chip network w clocks faces)) result before after old new printed
-      × AreLeft network w clocks faces printed left
+      Ends (second (Some cif) (Plays chip swaps network w clocks faces)) result before after old new printed
+      × WhereBegun result before after (AreLeft swaps network w clocks faces printed left) (left ≡ lent)
 
   -- an error that was passed on
   by_err : (left : List Face) (result : Result (Unit {0}) Halt) (before after : World)
@@ -35,11 +37,11 @@ module _ (cif chip : List ℕ) (network : Network) (w : Wired) (clocks : ℕ) (f
   by_err left (Err h) before after is leaves = subst (λ e. Leaves (Given left (Err e)) before after) (sym is) leaves
 
   -- a part of the file was stored
-  pub stored_in_part : (text : List ℕ) → IsBoarded network w clocks faces text → (result : Result (Unit {0}) Halt)
-      (before after : World) → IsErrAnd result (λ h. h ≡ WriteFault) → StoreFailed before after
-      → WhereTold (HoldsPart cif chip) before.files after.files → Leaves (Given faces result) before after
+  pub stored_in_part : (text : List ℕ) → IsBoardedWith swaps network w clocks faces text
+      → (result : Result (Unit {0}) Halt) (before after : World) → IsErrAnd result (λ h. h ≡ WriteFault)
+      → StoreFailed before after → WhereTold (HoldsPart cif chip) before.files after.files
+      → Leaves (Given lent result) before after
   stored_in_part text board result before after is why stored =
-      let left : AreLeft network w clocks faces [] faces = record { text = text; board = board; parts = refl } in
       let cut : (old new : Files) → HoldsPart cif chip old new → IsCutShort Stage before after old new [] =
       λ old new part. record {
         fault = tt;
@@ -48,22 +50,22 @@ module _ (cif chip : List ℕ) (network : Network) (w : Wired) (clocks : ℕ) (f
         shows = (refl, board);
         part = inl (why, refl, part);
       } in
-      by_err faces result before after is (record {
+      by_err lent result before after is (record {
         printed = [];
         gained = subst (λ t. WhereTold (Gains []) before.text t) (sym why.text) (gains_nothing before.text);
-        told = told_map (HoldsPart cif chip) (λ old new. Given faces (Err WriteFault) before after old new [])
-            before.files after.files (λ old new part. (cut old new part, left)) stored;
+        told = told_map (HoldsPart cif chip) (λ old new. Given lent (Err WriteFault) before after old new [])
+            before.files after.files (λ old new part. (cut old new part, inr (why, refl))) stored;
       })
 
   -- the file was stored, and a part of the text printed
   pub printed_in_part : {T E : Type 0} (e : E) (left : List Face) (result : Result (Unit {0}) Halt)
       (before after : World) → IsErrAnd result (λ h. h ≡ WriteFault) → PrintFailed before after
       → WhereTold (Holds cif chip) before.files after.files
-      → PrintsBoard {T = T} {E = E} network w clocks faces left before.text after.text (Err e)
+      → PrintsBoardWith swaps {T = T} {E = E} network w clocks faces left before.text after.text (Err e)
       → Leaves (Given left result) before after
   printed_in_part e left result before after is why stored prints =
       let printed : List ℕ = take prints.count prints.text in
-      let are : AreLeft network w clocks faces printed left =
+      let are : AreLeft swaps network w clocks faces printed left =
       record { text = prints.text; board = prints.board; parts = prints.parts } in
       let cut : (old new : Files) → Holds cif chip old new → IsCutShort Stage before after old new printed =
       λ old new holds. record {
@@ -77,22 +79,22 @@ module _ (cif chip : List ℕ) (network : Network) (w : Wired) (clocks : ℕ) (f
         printed = printed;
         gained = prints.gained;
         told = told_map (Holds cif chip) (λ old new. Given left (Err WriteFault) before after old new printed)
-            before.files after.files (λ old new holds. (cut old new holds, are)) stored;
+            before.files after.files (λ old new holds. (cut old new holds, inl (why, are))) stored;
       })
 
   -- the file was stored, and the whole text printed
   pub printed_whole : {T E : Type 0} (v : T) (left : List Face) (u : Unit {0}) (before after : World)
       → WhereTold (Holds cif chip) before.files after.files
-      → PrintsBoard {T = T} {E = E} network w clocks faces left before.text after.text (Ok v)
+      → PrintsBoardWith swaps {T = T} {E = E} network w clocks faces left before.text after.text (Ok v)
       → Leaves (Given left (Ok u)) before after
   printed_whole v left u before after stored prints =
       let text : List ℕ = prints.text in
       let whole : take prints.count text ≡ text = prints.all in
-      let are : AreLeft network w clocks faces text left = record {
+      let are : AreLeft swaps network w clocks faces text left = record {
         text = text;
         board = prints.board;
         parts = prints.parts
-            ∙ ap (λ (t : List ℕ). faces_along w 0 faces (take (whole_lines t) (prints.board).shown)) whole;
+            ∙ ap (λ (t : List ℕ). faces_with swaps w 0 faces (take (whole_lines t) (prints.board).shown)) whole;
       } in
       let done : (old new : Files) → Holds cif chip old new → IsDone Stage old new text =
       λ old new holds. record { fault = tt; chip = chip; shows = (refl, prints.board); stored = holds } in

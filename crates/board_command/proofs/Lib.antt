@@ -1,4 +1,5 @@
 pub mod Judging
+pub mod Leaving
 pub mod Given
 pub mod Known
 pub mod Endings

@@ -13,4 +13,4 @@ abbrev pub Boards : Lent → List ℕ → List ℕ → ℕ → List (List ℕ) �
     → Files → Files → List ℕ → Type 0
 Boards lent source cif clocks words left result before after old new printed =
     Ends (work lent source cif clocks words) result before after old new printed
-    × Moves lent (bytes_of old source) words clocks left result printed
+    × Moves lent (bytes_of old source) words clocks left result before after printed

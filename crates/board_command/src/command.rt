@@ -12,18 +12,18 @@ ghost use Rattle.board_command.specs.Parts.{Lent};
 ghost use Rattle.board_command.specs.Shown.{Boards};
 ghost use Rattle.board_command.specs.Work.{work, Moves, Rests};
 
-use crate::links::judge_links;
+use crate::links::judge_plan;
 use crate::playing::play;
 use crate::ready::{Ready, chip_on_board};
 use board::{NamedPart, Part};
-use board_run::laws::boards_follow;
+use board_run::laws::{plans_run, swapped_boards_follow};
 use mp_checker::Checked;
 use outcome::Halt;
 use outside::{Depot, Sink};
 use source_files::read_source;
 use std::alloc::Global;
 
-// Judges the links for a program, stores the bytes of its chip, and runs their circuit with the linked parts.
+// Judges the links and swaps for a program, stores the bytes of its chip, and runs their circuit with the linked parts.
 fn show<D: Depot, O: Sink>(
     alloc: Global,
     depot: &mut D,
@@ -53,22 +53,31 @@ fn show<D: Depot, O: Sink>(
         → Leaves (Boards lent source cif.now clocks (map string_bytes words.now) (faces parts.new.items) result)
         (world depot.old out.old) (world depot.new out.new) }
     ensures silent { IsQuiet result (O.held out.old) (O.held out.new) }
-    ensures names { map (λ p. string_bytes p.name) parts.new.items ≡ map (λ p. string_bytes p.name) parts.old.items }
-    ensures rests { Rests parts.old.items parts.new.items result }
+    ensures rests { let world = world_of D.held D.read_faults D.write_faults O.held O.faults in
+        Rests (λ p. string_bytes p.name) clocks (map string_bytes words.now) parts.old.items parts.new.items result
+        (world depot.old out.old) (world depot.new out.new) }
 {
-    let links = judge_links(alloc, words, parts, checked)?;
-    let Ready { chip, circuit } = chip_on_board(alloc, checked, links)?;
+    let plan = judge_plan(alloc, words, parts, checked, clocks)?;
+    plans_run();
+    let Ready {
+        chip,
+        circuit,
+        taken,
+    } = chip_on_board(alloc, checked, &plan)?;
     checked.unbroken();
-    boards_follow();
-    play(depot, out, parts, circuit, &chip, cif, clocks)
+    swapped_boards_follow();
+    let swaps = plan.swaps.as_slice();
+    play(depot, out, parts, circuit, swaps, taken, &chip, cif, clocks)
 }
 
 /// Writes the CIF file of a chip for the source, and prints the transcript of the circuit that its bytes draw, for some
-/// clocks from unknown values, with the linked parts, and the size line at its end.
+/// clocks from unknown values, with the linked parts, and the size line at its end. A swap puts another part in the place
+/// of a linked one, before its clock. When printing begins the parts that swaps put in leave the list. One that isn't
+/// placed at the end is dropped.
 ///
 /// # Errors
 ///
-/// A read fault, the first broken rule of the source and then of the links, want of memory, or a write fault of the
+/// A read fault, the first broken rule of the source and then of the words, want of memory, or a write fault of the
 /// depot or the sink.
 pub fn board<D: Depot, O: Sink>(
     alloc: Global,
@@ -108,13 +117,15 @@ pub fn board<D: Depot, O: Sink>(
         } in
         Leaves (λ before after old new printed.
         Ends (work lent source.now cif.now clocks (map string_bytes words.now)) result before after old new printed
-        × Moves lent (bytes_of old source.now) (map string_bytes words.now) clocks (faces parts.new.items) result
-        printed) (world depot.old out.old) (world depot.new out.new) }
+        × Moves lent (bytes_of old source.now) (map string_bytes words.now) clocks (faces parts.new.items) result before
+        after printed) (world depot.old out.old) (world depot.new out.new) }
     ensures silent { IsQuiet result (O.held out.old) (O.held out.new) }
-    ensures names { map (λ p. string_bytes p.name) parts.new.items ≡ map (λ p. string_bytes p.name) parts.old.items }
 
-    // Whatever the files are, the parts are as they were but after all was done or a write failed.
-    ensures rests { Rests parts.old.items parts.new.items result }
+    // Whatever the files are, the list is as it was until printing has begun. Then the parts that swaps put in are out
+    // of it, and the others keep their names and their order.
+    ensures rests { let world = world_of D.held D.read_faults D.write_faults O.held O.faults in
+        Rests (λ p. string_bytes p.name) clocks (map string_bytes words.now) parts.old.items parts.new.items result
+        (world depot.old out.old) (world depot.new out.new) }
 {
     let checked = read_source(alloc, depot, source)?;
     let result = show(alloc, depot, out, parts, &checked, cif, clocks, words);

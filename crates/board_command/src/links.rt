@@ -1,27 +1,28 @@
-//! Links of parts to the pads of a source, judged.
+//! Links and swaps of parts at the pads of a source, judged.
 
-ghost use Rattle.std.specs.Prelude.{length, map, IfOk, string_bytes};
+ghost use Rattle.std.specs.Prelude.{map, IfOk, string_bytes};
 ghost use Rattle.mp_program.specs.Pads.{ArePadsOf};
 ghost use Rattle.mp_base.specs.Refuses.{IsJudged};
-ghost use Rattle.board.specs.Links.{OfWords};
-ghost use Rattle.board_command.specs.Linked.{IsLinked};
+ghost use Rattle.board.specs.Plans.{OfPlan};
+ghost use Rattle.board_command.specs.Linked.{IsPlanFor, setting_of};
 
-use board::{Link, NamedPart, read_links};
-use mp_base::{List, Refusal};
+use board::{NamedPart, Plan, read_plan};
+use mp_base::Refusal;
 use mp_checker::Checked;
 use mp_rules::laws::few_namings;
 use std::alloc::Global;
 
-/// Judges links for a checked program.
-pub(crate) fn judge_links(
+/// Judges links and swaps for a checked program and so many clocks.
+pub(crate) fn judge_plan(
     alloc: Global,
     words: &[String],
     parts: &[NamedPart],
     checked: &Checked,
-) -> Result<List<Link>, Refusal>
-    ensures judged { IsJudged (OfWords (map (λ p. string_bytes p.name) parts.now) checked.now.pads
+    clocks: u32,
+) -> Result<Plan, Refusal>
+    ensures judged { IsJudged (OfPlan (setting_of (map (λ p. string_bytes p.name) parts.now) clocks checked.now.pads)
         (map string_bytes words.now)) result }
-    ensures linked { IfOk result (IsLinked (map (λ p. string_bytes p.name) parts.now) (length parts.now)
+    ensures planned { IfOk result (IsPlanFor (map (λ p. string_bytes p.name) parts.now) clocks
         (map string_bytes words.now) checked.now.program checked.now.pads) }
     ensures padded { ArePadsOf checked.now.program checked.now.pads }
 {
@@ -31,5 +32,5 @@ pub(crate) fn judge_links(
     if parts.len() > u32::MAX as usize {
         return Err(Refusal::NoMemory);
     }
-    read_links(alloc, words, parts, pads)
+    read_plan(alloc, words, parts, pads, clocks)
 }

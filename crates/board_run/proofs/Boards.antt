@@ -27,7 +27,7 @@ use Rattle.sim_run.proofs.Transcripts.{can_step, steps_on}
 use Rattle.board.specs.Boarding.{Boarding}
 use Rattle.board.specs.Face.{Face}
 use Rattle.board.specs.Loop.{Wired, Exchange, IsSwappedLoop, faces_after, faces_with, inputs_at}
-use Rattle.board.specs.Printing.{PrintsLoop, PrintsLoopWith}
+use Rattle.board.specs.Printing.{PrintsLoopWith}
 use Rattle.board.specs.Laws.{InputsFit}
 use Rattle.board.proofs.SwappedLoops.{IsLoopOn, loop_then, more}
 use Rattle.board_laws.specs.Laws.{SwappedCircuitsLoop}
@@ -232,15 +232,6 @@ printed_as {T} {E} swaps s t clocks faces later x y r is prints =
 has_its_pads : (circuit : Running) (board : Boarding) (size : List ℕ) → IsReady circuit board size
     → HasPads circuit.network (board.wired).pads
 has_its_pads circuit board size ready = subst (HasPads circuit.network) ready.pads ready.has_pads
-
--- from its first clock
-pub from_first : {T E : Type 0} (circuit : Running) (board : Boarding) (size : List ℕ) → IsReady circuit board size
-    → (done clocks : ℕ) (after : Running) (faces later : List Face) (x y : Option (List ℕ)) (r : Result T E)
-    → PrintsLoop {T = T} {E = E} CircuitSteps board.wired board.done done clocks circuit after faces later x y r
-    → PrintsLoopWith [] {T = T} {E = E} CircuitSteps board.wired 0 done clocks circuit after faces later x y r
-from_first {T} {E} circuit board size ready done clocks after faces later x y r p =
-    subst (λ n. PrintsLoop {T = T} {E = E} CircuitSteps board.wired n done clocks circuit after faces later x y r)
-    ready.unrun p
 
 module _ (fits : InputsFit) (circuits : SwappedCircuitsLoop) (exist : TraceExists) (swaps : List Exchange)
     (circuit : Running) (board : Boarding) (size : List ℕ) (ready : IsReady circuit board size) {T E : Type 0}

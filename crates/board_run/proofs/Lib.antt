@@ -1,3 +1,6 @@
+mod Left
+mod Planned
+mod Plain
 pub mod Feeds
 pub mod Stretches
 pub mod Boards

@@ -1,5 +1,5 @@
 -- What holds of chips on boards.
-use Rattle.std.specs.Prelude.{◌≡◌, ℕ, List, [], length, take}
+use Rattle.std.specs.Prelude.{◌≡◌, ◌<◌, ℕ, List, [], All, false, length, take}
 use Rattle.mp_base.specs.declared.value.Trit.{Trit}
 use Rattle.mp_program.specs.declared.program.Program.{Program}
 use Rattle.mp_program.specs.State.{State, zero_state}
@@ -9,11 +9,18 @@ use Rattle.switch_net.specs.Breaks.{HasPads}
 use Rattle.mask_net.specs.Masks.{IsNetOf}
 use Rattle.headline.specs.Headline.{IsChipOf}
 use Rattle.trace_run.specs.Transcript.{ProgramSteps}
+use Rattle.board.specs.declared.link.Link.{Link}
+use Rattle.board.specs.declared.plan.Plan.{Plan}
+use Rattle.board.specs.Boarding.{AreWires}
 use Rattle.board.specs.Face.{Face}
+use Rattle.board.specs.Links.{AreLinks}
+use Rattle.board.specs.Plans.{IsPlan, IsWhole, Setting, is_swap_word}
 use Rattle.board.specs.Loop.{Wired, Exchange, IsSwappedLoop, faces_with}
 use Rattle.board.specs.Laws.{AgreeWhereSettled}
 use Rattle.board_laws.specs.Laws.{IsBoardOf}
 use Rattle.board_run.specs.Boarded.{IsBoarded, IsBoardedWith}
+use Rattle.board_run.specs.Left.{exchanges_of, left_of, links_left}
+use Rattle.board_run.specs.Swaps.{AreTimely}
 
 -- so many clocks of the loop of a program with these swaps, from the zero state and these parts, show this
 pub record IsProgramLoopWith (swaps : List Exchange) (p : Program) (w : Wired) (clocks : ℕ) (faces : List Face)
@@ -64,3 +71,27 @@ abbrev pub SwappedBoardsRun : Type 0
 SwappedBoardsRun =
     (swaps : List Exchange) (net : Network) (w : Wired) (clocks : ℕ) (faces : List Face) → HasPads net w.pads
     → (text : List ℕ) × IsBoardedWith swaps net w clocks faces text
+
+-- A plan can be run with the parts that are left by its swaps: its links are wires of parts that are there, and its
+-- swaps are in order, each of one of its clocks and links.
+pub record CanRun (setting : Setting) (plan : Plan) (faces : List Face) : Type 0 where
+  pub wires : AreWires setting.pads (links_left plan)
+  pub within : All (λ (l : Link). l.part < length (left_of plan.swaps setting.parts)) (links_left plan)
+  pub timely : AreTimely (links_left plan) setting.clocks (exchanges_of faces plan)
+
+-- a plan that was read can be run so
+abbrev pub PlansRun : Type 0
+PlansRun = (setting : Setting) (plan : Plan) (faces : List Face) → IsWhole setting plan → CanRun setting plan faces
+
+-- Words of which none is a swap stand for links alone: their plan has no swaps, and leaves every part in the list.
+pub record IsPlain (setting : Setting) (words : List (List ℕ)) (plan : Plan) : Type 0 where
+  pub links : AreLinks setting.parts setting.pads words plan.links
+  pub none : plan.swaps ≡ []
+  pub wired : links_left plan ≡ plan.links
+  pub names : left_of plan.swaps setting.parts ≡ setting.parts
+  pub faces : (faces : List Face) → left_of plan.swaps faces ≡ faces
+
+abbrev pub PlainWords : Type 0
+PlainWords =
+    (setting : Setting) (words : List (List ℕ)) (plan : Plan) → All (λ word. is_swap_word word ≡ false) words
+    → IsPlan setting words plan → IsPlain setting words plan

@@ -1,3 +1,4 @@
+pub mod Left
 pub mod Swaps
 pub mod Boarded
 pub mod Standing

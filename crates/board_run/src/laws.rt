@@ -1,6 +1,7 @@
 //! Laws of chips on boards: a call of one does nothing, and tells the caller's proof what it ensures.
 
-ghost use Rattle.board_run.specs.Laws.{BoardsFollow, BoardsRun, SwappedBoardsFollow, SwappedBoardsRun};
+ghost use Rattle.board_run.specs.Laws.{BoardsFollow, BoardsRun, PlainWords, PlansRun, SwappedBoardsFollow};
+ghost use Rattle.board_run.specs.Laws.{SwappedBoardsRun};
 
 use board::laws::{inputs_fit, swapped_loops_agree};
 use board_laws::laws::swapped_chips_loop;
@@ -45,3 +46,13 @@ pub fn swapped_boards_run()
     circuits_run();
     inputs_fit();
 }
+
+/// A plan that was read can be run with the parts that are left by its swaps.
+pub fn plans_run()
+    ensures { PlansRun }
+{}
+
+/// Words of which none is a swap stand for links alone, and their plan leaves every part in the list.
+pub fn plain_words()
+    ensures { PlainWords }
+{}

@@ -4,6 +4,8 @@
 pub mod laws;
 mod run;
 mod swapped;
+mod taking;
 
 pub use run::BoardRun;
 pub use swapped::Exchange;
+pub use taking::{links_left, take_out};

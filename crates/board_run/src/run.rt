@@ -11,7 +11,7 @@ ghost use Rattle.mask_net.specs.SizeLine.{last_line, size_text};
 ghost use Rattle.board.specs.Boarding.{AreWires};
 ghost use Rattle.board.specs.Face.{Face};
 ghost use Rattle.board.specs.Loop.{Exchange as Swapped, Wired};
-ghost use Rattle.board_run.specs.Boarded.{PrintsBoard, PrintsBoardWith};
+ghost use Rattle.board_run.specs.Boarded.{PrintsBoardWith};
 ghost use Rattle.board_run.specs.Standing.{IsReady};
 ghost use Rattle.board_run.specs.Swaps.{AreTimely};
 
@@ -70,36 +70,8 @@ fn write_end<O: Sink>(out: &mut O, size: &[u8], circuit: &Circuit<'_>) -> Result
     write_last_line(out, size, circuit.values())
 }
 
-// Runs a circuit that has run no clock, and prints all of it.
-fn run_clocks<O: Sink>(
-    circuit: &mut Circuit<'_>,
-    board: &mut Board<'_>,
-    size: &[u8],
-    parts: &mut Vec<NamedPart>,
-    clocks: u32,
-    out: &mut O,
-) -> Result<(), Failed>
-    requires ready { IsReady circuit.old board.old size.now }
-    requires parts { All (λ l. l.part < length parts.old.items) board.old.wired.links }
-    ensures names { map (λ p. string_bytes p.name) parts.new.items ≡ map (λ p. string_bytes p.name) parts.old.items }
-    ensures printed { let faces = map (λ p. let f : Face = record {
-      state = (⟦<dyn Part as Part>⟧ p.part.vtable).state p.part.value;
-      drives = (⟦<dyn Part as Part>⟧ p.part.vtable).driven_in;
-      sees = (⟦<dyn Part as Part>⟧ p.part.vtable).after_seeing;
-    } in f) in
-        PrintsBoard circuit.old.network board.old.wired clocks (faces parts.old.items) (faces parts.new.items)
-        (O.held out.old) (O.held out.new) result }
-    ensures cause { HasCause (O.faults out.old) (O.faults out.new) result }
-{
-    circuits_run();
-    swapped_circuits_loop();
-    inputs_fit();
-    board.run(circuit, parts, clocks, out)?;
-    write_end(out, size, circuit)
-}
-
 // Runs a circuit that has run no clock, with swaps, and prints all of it.
-fn run_exchanging<O: Sink>(
+fn run_clocks<O: Sink>(
     circuit: &mut Circuit<'_>,
     board: &mut Board<'_>,
     size: &[u8],
@@ -178,45 +150,14 @@ impl<'a> BoardRun<'a> {
     }
 
     /// Runs the circuit for some clocks with the parts of its links, and prints its transcript, every clock in full,
-    /// and its size line. Takes no memory.
-    ///
-    /// # Errors
-    ///
-    /// `Failed` where the sink failed: then a first part was printed, but not all, and the parts are as after the
-    /// clocks whose lines were printed whole.
-    pub fn run<O: Sink>(
-        self,
-        parts: &mut Vec<NamedPart>,
-        clocks: u32,
-        out: &mut O,
-    ) -> Result<(), Failed>
-        requires parts { All (λ l. l.part < length parts.old.items) self.wired.links }
-        ensures names { map (λ p. string_bytes p.name) parts.new.items
-            ≡ map (λ p. string_bytes p.name) parts.old.items }
-        ensures printed { let faces = map (λ p. let f : Face = record {
-          state = (⟦<dyn Part as Part>⟧ p.part.vtable).state p.part.value;
-          drives = (⟦<dyn Part as Part>⟧ p.part.vtable).driven_in;
-          sees = (⟦<dyn Part as Part>⟧ p.part.vtable).after_seeing;
-        } in f) in
-            PrintsBoard self.entry.network self.entry.wired clocks (faces parts.old.items) (faces parts.new.items)
-            (O.held out.old) (O.held out.new) result }
-        ensures cause { HasCause (O.faults out.old) (O.faults out.new) result }
-    {
-        let BoardRun {
-            mut circuit,
-            mut board,
-            size,
-        } = self;
-        run_clocks(&mut circuit, &mut board, &size, parts, clocks, out)
-    }
-
-    /// The same with swaps, each of which is made before its clock. A part that isn't placed at the end is dropped.
+    /// and its size line. Each swap is made before its clock, and a part that isn't placed at the end is dropped. Takes
+    /// no memory.
     ///
     /// # Errors
     ///
     /// `Failed` where the sink failed: then a first part was printed, but not all, and the parts are as after the
     /// clocks whose lines were printed whole, with the swaps made by then.
-    pub fn run_with<O: Sink>(
+    pub fn run<O: Sink>(
         self,
         parts: &mut Vec<NamedPart>,
         swaps: Vec<Exchange>,
@@ -259,6 +200,6 @@ impl<'a> BoardRun<'a> {
             mut board,
             size,
         } = self;
-        run_exchanging(&mut circuit, &mut board, &size, parts, swaps, clocks, out)
+        run_clocks(&mut circuit, &mut board, &size, parts, swaps, clocks, out)
     }
 }

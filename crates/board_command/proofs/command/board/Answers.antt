@@ -7,10 +7,10 @@ use Rattle.outcome.proofs.Silence.{quiet_same}
 use Rattle.source_files.specs.Faults.{SourceFault}
 use Rattle.stages.proofs.Ending.{causes_as, causes_halted}
 use Rattle.board.specs.Face.{Face}
-use Rattle.board_command.specs.Linked.{OfLinks}
+use Rattle.board_command.specs.Linked.{OfBoard}
 use Rattle.board_command.specs.Parts.{Lent}
 use Rattle.board_command.specs.Work.{work}
-use Rattle.board_command.proofs.Endings.{plays_since, rests, plays_halted}
+use Rattle.board_command.proofs.Endings.{begun_since, ends_unwritten, plays_halted, plays_since, rests}
 use Rattle.board_command.proofs.command.board.Goals as goal
 
 pub returns-in_err-checked-clause-content : goal.returns-in_err-checked-clause-content
@@ -26,10 +26,11 @@ returns-in_err-checked-clause-content g c =
     } in
     let words : List (List ℕ) = map string_bytes c.args.words.now in
     let source = c.args.source.now in
+    let clocks : ℕ = c.args.clocks in
     let why = c.in_err-checked.field-0.0 in
     let F : Files → Option Fault → Type 0 = SourceFault source in
-    let G : Files → Option Fault → Type 0 = λ files. OfRule (OfLinks lent.names (bytes_of files source) words) in
-    plays_halted lent source c.args.cif.now c.args.clocks words why c.from_residual.result _ _ _ _
+    let G : Files → Option Fault → Type 0 = λ files. OfRule (OfBoard lent.names clocks (bytes_of files source) words) in
+    plays_halted lent source c.args.cif.now clocks words why c.from_residual.result _ _ _ _
     c.from_residual.ensures.1 c.in_err-checked.ensures.held refl
     (ends_first F G _ _ _ why c.in_err-checked.ensures.reason)
 
@@ -73,7 +74,7 @@ returns-in_err-checked-clause-causes g c =
     let clocks : ℕ = c.args.clocks in
     let why = c.in_err-checked.field-0.0 in
     let F : Files → Option Fault → Type 0 = SourceFault source in
-    let G : Files → Option Fault → Type 0 = λ files. OfRule (OfLinks lent.names (bytes_of files source) words) in
+    let G : Files → Option Fault → Type 0 = λ files. OfRule (OfBoard lent.names clocks (bytes_of files source) words) in
     causes_halted (work lent source c.args.cif.now clocks words).First (g.D.Depot.held c.read_source.new.depot) why
     c.from_residual.result _ _ c.from_residual.ensures.1 (ends_first F G _ _ _ why c.in_err-checked.ensures.reason)
     c.in_err-checked.ensures.writes refl
@@ -90,14 +91,13 @@ returns-in_err-checked-clause-silent g c = quiet_same c.from_residual.result _
 pub returns-clause-silent : goal.returns-clause-silent
 returns-clause-silent g c = c.show-result.ensures.silent
 
-pub returns-in_err-checked-clause-names : goal.returns-in_err-checked-clause-names
-returns-in_err-checked-clause-names g c = refl
-
-pub returns-clause-names : goal.returns-clause-names
-returns-clause-names g c = c.show-result.ensures.names
-
 pub returns-in_err-checked-clause-rests : goal.returns-in_err-checked-clause-rests
-returns-in_err-checked-clause-rests g c = rests _ c.from_residual.result
+returns-in_err-checked-clause-rests g c =
+    let why = c.in_err-checked.field-0.0 in
+    rests _ _ why c.from_residual.result _ _ c.from_residual.ensures.1
+    (ends_unwritten (SourceFault c.args.source.now) _ _ _ why c.in_err-checked.ensures.reason)
 
 pub returns-clause-rests : goal.returns-clause-rests
-returns-clause-rests g c = c.show-result.ensures.rests
+returns-clause-rests g c =
+    begun_since _ _ c.show-result.result _ _ _
+    (record { writes = c.in_ok-checked.ensures.writes; prints = refl; text = refl }) c.show-result.ensures.rests

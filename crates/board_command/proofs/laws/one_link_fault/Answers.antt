@@ -6,6 +6,6 @@ returns c = one_fault (record {
   source = c.one_fault.ensures.source;
   spelled = c.one_source.ensures;
   pads = c.one_pads.ensures;
-  broken = c.one_reading.ensures.first;
-  whole = c.one_reading.ensures.whole;
+  broken = c.one_plan.ensures.first;
+  whole = c.one_plan.ensures.whole;
 })

@@ -1,14 +1,13 @@
-use Rattle.std.proofs.Common.{List, ℕ, Err, map, refl}
+use Rattle.std.proofs.Common.{List, ℕ, Err, inr, map, refl}
 use Rattle.outcome.specs.declared.halt.Halt.TheVariants.{WriteFault}
 use Rattle.outcome.proofs.Causes.{store_failed, print_failed}
 use Rattle.outcome.proofs.Silence.{quiet_cut}
 use Rattle.board.specs.Face.{Face}
+use Rattle.board.specs.Loop.{Exchange}
+use Rattle.board_run.specs.Left.{exchange_of, left_of}
 use Rattle.board_command.proofs.Given.{stored_in_part, printed_in_part, printed_whole}
-use Rattle.board_command.proofs.Endings.{rests_cut}
+use Rattle.board_command.proofs.Endings.{begun_cut}
 use Rattle.board_command.proofs.playing.play.Goals as goal
-
-pub run-requires : goal.run-requires
-run-requires g c = record { parts = c.requires.parts }
 
 pub returns-in-Err-clause-content : goal.returns-in-Err-clause-content
 returns-in-Err-clause-content g c =
@@ -17,10 +16,13 @@ returns-in-Err-clause-content g c =
       drives = (g.dyn-1.0.entry p.part.vtable).1.driven_in;
       sees = (g.dyn-1.0.entry p.part.vtable).1.after_seeing;
     } in f) c.args.parts.now.items in
+    let swapped : List Exchange = map (exchange_of faces) c.args.swaps.now in
+    let others : List Face = left_of c.args.swaps.now faces in
     let clocks : ℕ = c.args.clocks in
     let circuit = c.args.circuit in
-    let some = c.boards_run.ensures circuit.network circuit.wired clocks faces c.requires.has_pads in
-    stored_in_part c.args.cif.now c.args.chip.now circuit.network circuit.wired clocks faces some.0 some.1
+    let some = c.swapped_boards_run.ensures swapped circuit.network circuit.wired clocks others c.requires.has_pads in
+    stored_in_part c.args.cif.now c.args.chip.now swapped circuit.network circuit.wired clocks faces others some.0
+    some.1
     (Err WriteFault) _ _ refl (record {
       later = c.in-Err.ensures.cause.later;
       failed = c.in-Err.ensures.cause.failed;
@@ -28,36 +30,40 @@ returns-in-Err-clause-content g c =
       text = refl;
     }) c.in-Err.ensures.cut
 
-pub returns-in_err-run-in-Ok-clause-content : goal.returns-in_err-run-in-Ok-clause-content
-returns-in_err-run-in-Ok-clause-content g c =
+pub returns-in_err-run_left-in-Ok-clause-content : goal.returns-in_err-run_left-in-Ok-clause-content
+returns-in_err-run_left-in-Ok-clause-content g c =
     let faces : List Face = map (λ p. let f : Face = record {
       state = (g.dyn-1.0.entry p.part.vtable).1.state p.part.value;
       drives = (g.dyn-1.0.entry p.part.vtable).1.driven_in;
       sees = (g.dyn-1.0.entry p.part.vtable).1.after_seeing;
     } in f) c.args.parts.now.items in
+    let swapped : List Exchange = map (exchange_of faces) c.args.swaps.now in
+    let others : List Face = left_of c.args.swaps.now faces in
     let clocks : ℕ = c.args.clocks in
     let circuit = c.args.circuit in
-    printed_in_part c.args.cif.now c.args.chip.now circuit.network circuit.wired clocks faces
-    c.in_err-run-in-Ok.field-0.0 _
+    printed_in_part c.args.cif.now c.args.chip.now swapped circuit.network circuit.wired clocks faces others
+    c.in_err-run_left-in-Ok.field-0.0 _
     c.from_residual.result _ _ c.from_residual.ensures.1 (record {
-      later = c.in_err-run-in-Ok.ensures.cause.later;
-      failed = c.in_err-run-in-Ok.ensures.cause.failed;
+      later = c.in_err-run_left-in-Ok.ensures.cause.later;
+      failed = c.in_err-run_left-in-Ok.ensures.cause.failed;
       writes = c.in-Ok.ensures.cause.ok;
     }) c.in-Ok.ensures.stored
-    c.in_err-run-in-Ok.ensures.printed
+    c.in_err-run_left-in-Ok.ensures.printed
 
-pub returns-in_ok-run-in-Ok-clause-content : goal.returns-in_ok-run-in-Ok-clause-content
-returns-in_ok-run-in-Ok-clause-content g c =
+pub returns-in_ok-run_left-in-Ok-clause-content : goal.returns-in_ok-run_left-in-Ok-clause-content
+returns-in_ok-run_left-in-Ok-clause-content g c =
     let faces : List Face = map (λ p. let f : Face = record {
       state = (g.dyn-1.0.entry p.part.vtable).1.state p.part.value;
       drives = (g.dyn-1.0.entry p.part.vtable).1.driven_in;
       sees = (g.dyn-1.0.entry p.part.vtable).1.after_seeing;
     } in f) c.args.parts.now.items in
+    let swapped : List Exchange = map (exchange_of faces) c.args.swaps.now in
+    let others : List Face = left_of c.args.swaps.now faces in
     let clocks : ℕ = c.args.clocks in
     let circuit = c.args.circuit in
-    printed_whole c.args.cif.now c.args.chip.now circuit.network circuit.wired clocks faces c.in_ok-run-in-Ok.field-0
-    _ tt _ _
-    c.in-Ok.ensures.stored c.in_ok-run-in-Ok.ensures.printed
+    printed_whole c.args.cif.now c.args.chip.now swapped circuit.network circuit.wired clocks faces others
+    c.in_ok-run_left-in-Ok.field-0 _ tt _ _
+    c.in-Ok.ensures.stored c.in_ok-run_left-in-Ok.ensures.printed
 
 pub returns-in-Err-clause-causes : goal.returns-in-Err-clause-causes
 returns-in-Err-clause-causes g c =
@@ -67,38 +73,41 @@ returns-in-Err-clause-causes g c =
 pub returns-in-Err-clause-silent : goal.returns-in-Err-clause-silent
 returns-in-Err-clause-silent g c = tt
 
-pub returns-in-Err-clause-names : goal.returns-in-Err-clause-names
-returns-in-Err-clause-names g c = refl
-
 pub returns-in-Err-clause-rests : goal.returns-in-Err-clause-rests
-returns-in-Err-clause-rests g c = tt
+returns-in-Err-clause-rests g c = inr (
+  record {
+    later = c.in-Err.ensures.cause.later;
+    failed = c.in-Err.ensures.cause.failed;
+    prints = refl;
+    text = refl;
+  },
+  refl,
+)
 
-pub returns-in_err-run-in-Ok-clause-causes : goal.returns-in_err-run-in-Ok-clause-causes
-returns-in_err-run-in-Ok-clause-causes g c =
+pub returns-in_err-run_left-in-Ok-clause-causes : goal.returns-in_err-run_left-in-Ok-clause-causes
+returns-in_err-run_left-in-Ok-clause-causes g c =
     print_failed c.from_residual.result _ _ _ c.from_residual.ensures.1
-    c.in-Ok.ensures.reads c.in-Ok.ensures.cause.ok c.in_err-run-in-Ok.ensures.cause.later
-    c.in_err-run-in-Ok.ensures.cause.failed
+    c.in-Ok.ensures.reads c.in-Ok.ensures.cause.ok c.in_err-run_left-in-Ok.ensures.cause.later
+    c.in_err-run_left-in-Ok.ensures.cause.failed
 
-pub returns-in_ok-run-in-Ok-clause-causes : goal.returns-in_ok-run-in-Ok-clause-causes
-returns-in_ok-run-in-Ok-clause-causes g c =
-    (c.in-Ok.ensures.reads, c.in-Ok.ensures.cause.ok, c.in_ok-run-in-Ok.ensures.cause.ok)
+pub returns-in_ok-run_left-in-Ok-clause-causes : goal.returns-in_ok-run_left-in-Ok-clause-causes
+returns-in_ok-run_left-in-Ok-clause-causes g c =
+    (c.in-Ok.ensures.reads, c.in-Ok.ensures.cause.ok, c.in_ok-run_left-in-Ok.ensures.cause.ok)
 
-pub returns-in_err-run-in-Ok-clause-silent : goal.returns-in_err-run-in-Ok-clause-silent
-returns-in_err-run-in-Ok-clause-silent g c = quiet_cut c.from_residual.result _ _
+pub returns-in_err-run_left-in-Ok-clause-silent : goal.returns-in_err-run_left-in-Ok-clause-silent
+returns-in_err-run_left-in-Ok-clause-silent g c = quiet_cut c.from_residual.result _ _
     c.from_residual.ensures.1
 
-pub returns-in_ok-run-in-Ok-clause-silent : goal.returns-in_ok-run-in-Ok-clause-silent
-returns-in_ok-run-in-Ok-clause-silent g c = tt
+pub returns-in_ok-run_left-in-Ok-clause-silent : goal.returns-in_ok-run_left-in-Ok-clause-silent
+returns-in_ok-run_left-in-Ok-clause-silent g c = tt
 
-pub returns-in_err-run-in-Ok-clause-names : goal.returns-in_err-run-in-Ok-clause-names
-returns-in_err-run-in-Ok-clause-names g c = c.in_err-run-in-Ok.ensures.names
+pub returns-in_err-run_left-in-Ok-clause-rests : goal.returns-in_err-run_left-in-Ok-clause-rests
+returns-in_err-run_left-in-Ok-clause-rests g c =
+    begun_cut _ _ c.from_residual.result _ _ c.from_residual.ensures.1 (record {
+      later = c.in_err-run_left-in-Ok.ensures.cause.later;
+      failed = c.in_err-run_left-in-Ok.ensures.cause.failed;
+      writes = c.in-Ok.ensures.cause.ok;
+    }) c.in_err-run_left-in-Ok.ensures.names
 
-pub returns-in_ok-run-in-Ok-clause-names : goal.returns-in_ok-run-in-Ok-clause-names
-returns-in_ok-run-in-Ok-clause-names g c = c.in_ok-run-in-Ok.ensures.names
-
-pub returns-in_err-run-in-Ok-clause-rests : goal.returns-in_err-run-in-Ok-clause-rests
-returns-in_err-run-in-Ok-clause-rests g c = rests_cut _ _ c.from_residual.result
-    c.from_residual.ensures.1
-
-pub returns-in_ok-run-in-Ok-clause-rests : goal.returns-in_ok-run-in-Ok-clause-rests
-returns-in_ok-run-in-Ok-clause-rests g c = tt
+pub returns-in_ok-run_left-in-Ok-clause-rests : goal.returns-in_ok-run_left-in-Ok-clause-rests
+returns-in_ok-run_left-in-Ok-clause-rests g c = c.in_ok-run_left-in-Ok.ensures.names
