@@ -1,6 +1,6 @@
 -- What is made of a number is never refused, and nothing is read for it.
 use Rattle.std.proofs.Common.{◌≡◌, ℕ, List, refl, subst, Option, Some, None, Result, Ok, Err}
-use Rattle.command_line.specs.Command.{Command, Trace, Compile, Replay, Sim, Net, Stats, Board, Make}
+use Rattle.command_line.specs.Command.{Command, Trace, Compile, Replay, Sim, Net, Stats, Board, Make, Rules}
 use Rattle.outcome.specs.Halt.{status_of}
 use Rattle.outcome.specs.declared.halt.Halt.{Halt}
 use Rattle.outcome.specs.declared.halt.Halt.TheVariants as halt
@@ -25,6 +25,7 @@ refused_made (Some (Compile source cif)) status made = tt
 refused_made (Some (Replay source stimulus cif)) status made = tt
 refused_made (Some (Sim cif stimulus)) status made = tt
 refused_made (Some (Net cif)) status made = tt
+refused_made (Some (Rules cif)) status made = tt
 refused_made (Some (Stats source)) status made = tt
 refused_made (Some (Board source cif clocks links)) status made = tt
 refused_made (Some (Make number cif)) status made = absurd (made.0 refl)
@@ -36,6 +37,7 @@ wanting_made (Some (Compile source cif)) = tt
 wanting_made (Some (Replay source stimulus cif)) = tt
 wanting_made (Some (Sim cif stimulus)) = tt
 wanting_made (Some (Net cif)) = tt
+wanting_made (Some (Rules cif)) = tt
 wanting_made (Some (Stats source)) = tt
 wanting_made (Some (Board source cif clocks links)) = tt
 wanting_made (Some (Make number cif)) = (λ e. cc, λ e. cc)

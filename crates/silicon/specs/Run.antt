@@ -10,12 +10,12 @@ use Rattle.outcome.specs.declared.status.Status.TheVariants.{Refused, Usage, Rea
 use Rattle.board.specs.Face.{Face}
 use Rattle.board_command.specs.Parts.{Lent}
 use Rattle.silicon.specs.Faults.{work_of}
-use Rattle.board_command.specs.Work.{WhereGiven}
+use Rattle.board_command.specs.Work.{WhereBegun}
 use Rattle.silicon.specs.Parts.{Moving, Moved}
 
 abbrev pub usage_line : List ℕ
 usage_line =
-    codes "usage: macpitts trace SRC STIM or compile SRC CIF or replay SRC STIM CIF or sim CIF STIM or net CIF or stats SRC or board SRC CIF N LINK.. or make N CIF" ++ 10 ∷ []
+    codes "usage: macpitts trace SRC STIM or compile SRC CIF or replay SRC STIM CIF or sim CIF STIM or net CIF or stats SRC or board SRC CIF N LINK.. or make N CIF or rules CIF" ++ 10 ∷ []
 
 -- the words are in no form exactly where this is said; then nothing is read
 abbrev pub IsForWords : Option Command → Status → Type 0
@@ -36,14 +36,14 @@ abbrev pub Ending : {T : Type 0} → Lent → List Face → Command → Result T
     → Type 0
 Ending lent left command result before after old new printed =
     Ends (work_of lent command) result before after old new printed
-    × WhereGiven result (Moving lent left command old printed) (left ≡ lent.faces)
+    × WhereBegun result before after (Moving lent left command old printed) (left ≡ lent.faces)
 
 -- what a run did with the parts that were lent, which it left so
 abbrev pub Did : Lent → List Face → Option Command → Status → World → World → Files → Files → List ℕ → Type 0
 Did lent left None status before after old new printed = new ≡ old
 Did lent left (Some command) status before after old new printed =
     DidWork (work_of lent command) status before after old new printed
-    × Moved lent left command status old printed
+    × Moved lent left command status before after old printed
 
 -- for words in no form the usage line was printed
 abbrev pub TellsUsage : Option Command → Status → Option (List ℕ) → Option (List ℕ) → Type 0

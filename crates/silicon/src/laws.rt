@@ -16,7 +16,7 @@ ghost use Rattle.silicon.specs.Complete.{IsRun, AnyRose, AnyGreater, status_by};
 ghost use Rattle.silicon.specs.ReadBack.{CompiledFilesAreRead};
 
 use board_command::laws::{a_link_fault, one_link_fault, plays_follow};
-use mask_files::laws::{a_mask_fault, one_mask_fault};
+use mask_files::laws::{a_drawing_fault, a_mask_fault, one_drawing_fault, one_mask_fault};
 use replay_command::laws::replays_follow as circuits_follow;
 use replay_run::laws::chips_run;
 use sim_command::laws::{a_circuit_fault, one_circuit_fault};
@@ -29,6 +29,7 @@ pub fn one_first_fault()
 {
     one_fault();
     one_mask_fault();
+    one_drawing_fault();
     one_circuit_fault();
     one_link_fault();
 }
@@ -40,6 +41,7 @@ pub fn a_first_fault()
 {
     a_fault();
     a_mask_fault();
+    a_drawing_fault();
     a_circuit_fault();
     a_link_fault();
 }
@@ -87,7 +89,7 @@ pub fn replays_follow()
 }
 
 /// What a compiled chip shows on a board in each settled clock is what the source's program shows there with the same
-/// parts, and the parts move alike.
+/// parts and swaps, and the parts move alike.
 pub fn boards_follow()
     ensures { PlaysFollow }
 {

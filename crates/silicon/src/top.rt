@@ -19,6 +19,7 @@ use net_command::net;
 use outcome::{Halt, Status, refuse, say};
 use outside::{Depot, Sink};
 use replay_command::replay;
+use rules_command::rules;
 use sim_command::sim;
 use stats_command::stats;
 use std::alloc::{AllocError, Global};
@@ -59,8 +60,9 @@ fn perform<D: Depot, O: Sink>(
     ensures silent { IsQuiet result (O.held out.old) (O.held out.new) }
     ensures spares { SparesFiles (target_of (seen command.entry)) (D.held depot.old) (D.held depot.new)
         (D.write_faults depot.old) (D.write_faults depot.new) }
-    ensures names { map (λ p. string_bytes p.name) parts.new.items ≡ map (λ p. string_bytes p.name) parts.old.items }
-    ensures rests { Rests (seen command.entry) result parts.old.items parts.new.items }
+    ensures rests { let world = world_of D.held D.read_faults D.write_faults O.held O.faults in
+        Rests (λ p. string_bytes p.name) (seen command.entry) result (world depot.old out.old) (world depot.new out.new)
+        parts.old.items parts.new.items }
     ensures made { EndsMade (Some (seen command.entry)) (status_of result) }
 {
     match command {
@@ -76,6 +78,7 @@ fn perform<D: Depot, O: Sink>(
             board(alloc, depot, out, parts, source, cif, clocks, links)
         }
         Command::Make(number, cif) => make(alloc, depot, out, number, cif),
+        Command::Rules(cif) => rules(alloc, depot, out, cif),
     }
 }
 
@@ -115,8 +118,9 @@ fn run_command<D: Depot, O: Sink>(
     ensures silent { IsSilent result (O.held out.old) (O.held out.new) }
     ensures spares { SparesFiles (target_of (seen command.entry)) (D.held depot.old) (D.held depot.new)
         (D.write_faults depot.old) (D.write_faults depot.new) }
-    ensures names { map (λ p. string_bytes p.name) parts.new.items ≡ map (λ p. string_bytes p.name) parts.old.items }
-    ensures parts { KeepsParts (Some (seen command.entry)) result parts.old.items parts.new.items }
+    ensures parts { let world = world_of D.held D.read_faults D.write_faults O.held O.faults in
+        KeepsParts (λ p. string_bytes p.name) (Some (seen command.entry)) result (world depot.old out.old)
+        (world depot.new out.new) parts.old.items parts.new.items }
     ensures made { EndsMade (Some (seen command.entry)) result }
 {
     match perform(alloc, depot, out, parts, command) {
@@ -129,7 +133,7 @@ fn run_command<D: Depot, O: Sink>(
 }
 
 const USAGE: &str =
-    "usage: macpitts trace SRC STIM or compile SRC CIF or replay SRC STIM CIF or sim CIF STIM or net CIF or stats SRC or board SRC CIF N LINK.. or make N CIF\n";
+    "usage: macpitts trace SRC STIM or compile SRC CIF or replay SRC STIM CIF or sim CIF STIM or net CIF or stats SRC or board SRC CIF N LINK.. or make N CIF or rules CIF\n";
 
 /// Does what the words say, with the files, the output and the parts that are lent.
 pub fn run<D: Depot, O: Sink>(
@@ -180,11 +184,11 @@ pub fn run<D: Depot, O: Sink>(
     // The usage line, where the sink tells it.
     ensures usage { TellsUsage (command_of words.now.items) result (O.held out.old) (O.held out.new) }
 
-    // The list of parts stays, and each keeps its name.
-    ensures names { map (λ p. string_bytes p.name) parts.new.items ≡ map (λ p. string_bytes p.name) parts.old.items }
-
-    // Whatever the files are, only a board that was done or failed to write moves parts.
-    ensures parts { KeepsParts (command_of words.now.items) result parts.old.items parts.new.items }
+    // Whatever the files are, the list of parts stays as it was, but of a board that has begun to print. Then the parts
+    // that its swaps put in are out of it, and the others keep their names.
+    ensures parts { let world = world_of D.held D.read_faults D.write_faults O.held O.faults in
+        KeepsParts (λ p. string_bytes p.name) (command_of words.now.items) result (world depot.old out.old)
+        (world depot.new out.new) parts.old.items parts.new.items }
 
     // What is made of a number is never refused, and nothing is read for it.
     ensures made { EndsMade (command_of words.now.items) result }

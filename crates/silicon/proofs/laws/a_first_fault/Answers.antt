@@ -6,6 +6,7 @@ returns c = total (record {
   source = c.a_fault.ensures.source;
   run = c.a_fault.ensures.run;
   masks = c.a_mask_fault.ensures;
+  drawing = c.a_drawing_fault.ensures;
   circuit = c.a_circuit_fault.ensures;
   links = c.a_link_fault.ensures;
 })

@@ -1,12 +1,12 @@
 use Rattle.std.proofs.Common.{ap, map, refl, sym, subst, List, ℕ, Some}
 use Rattle.std.specs.Prelude.{string_bytes}
-use Rattle.command_line.specs.Command.{Trace, Compile, Replay, Sim, Net, Stats, Board, Make, seen}
+use Rattle.command_line.specs.Command.{Trace, Compile, Replay, Sim, Net, Stats, Board, Make, Rules, seen}
 use Rattle.outcome.specs.Halt.{status_of}
 use Rattle.board.specs.Face.{Face}
 use Rattle.board_command.specs.Parts.{Lent}
 use Rattle.silicon.specs.Run.{EndsMade}
 use Rattle.silicon.proofs.Making.{ends_made}
-use Rattle.silicon.proofs.Moves.{leaves_seen, leaves_still}
+use Rattle.silicon.proofs.Moves.{leaves_seen, leaves_still, rests_seen}
 use Rattle.silicon.proofs.top.perform.Goals as goal
 
 pub returns-in-Trace-clause-content : goal.returns-in-Trace-clause-content
@@ -101,6 +101,13 @@ returns-in-Board-clause-content g c =
     leaves_seen lent _ (seen c.args.command) (Board c.in-Board.source.now c.in-Board.cif.now c.in-Board.clocks words)
     c.board.result _ _ (ap seen c.in-Board.is) c.board.ensures.content
 
+pub returns-in-Board-clause-rests : goal.returns-in-Board-clause-rests
+returns-in-Board-clause-rests g c =
+    let words : List (List ℕ) = map string_bytes c.in-Board.links.now in
+    rests_seen (λ p. string_bytes p.name) _ _ _ _ (seen c.args.command)
+    (Board c.in-Board.source.now c.in-Board.cif.now c.in-Board.clocks words) c.board.result (ap seen c.in-Board.is)
+    c.board.ensures.rests
+
 pub returns-in-Make-clause-content : goal.returns-in-Make-clause-content
 returns-in-Make-clause-content g c =
     let lent : Lent = record {
@@ -113,6 +120,19 @@ returns-in-Make-clause-content g c =
     } in
     leaves_still lent (seen c.args.command) (Make c.in-Make.number c.in-Make.cif.now)
     c.make.result _ _ (ap seen c.in-Make.is) (λ old printed. refl) c.make.ensures.content
+
+pub returns-in-Rules-clause-content : goal.returns-in-Rules-clause-content
+returns-in-Rules-clause-content g c =
+    let lent : Lent = record {
+      names = map (λ p. string_bytes p.name) c.args.parts.now.items;
+      faces = map (λ p. let f : Face = record {
+        state = (g.dyn-1.0.entry p.part.vtable).1.state p.part.value;
+        drives = (g.dyn-1.0.entry p.part.vtable).1.driven_in;
+        sees = (g.dyn-1.0.entry p.part.vtable).1.after_seeing;
+      } in f) c.args.parts.now.items;
+    } in
+    leaves_still lent (seen c.args.command) (Rules c.in-Rules.cif.now)
+    c.rules.result _ _ (ap seen c.in-Rules.is) (λ old printed. refl) c.rules.ensures.content
 
 pub returns-in-Make-clause-made : goal.returns-in-Make-clause-made
 returns-in-Make-clause-made g c =

@@ -3,7 +3,7 @@ use Rattle.std.specs.Prelude.{string_bytes}
 use Rattle.outcome.specs.declared.status.Status.TheVariants.{NoMemory}
 use Rattle.board.specs.Face.{Face}
 use Rattle.board_command.specs.Parts.{Lent}
-use Rattle.silicon.proofs.Moves.{keeps_all, keeps_command}
+use Rattle.silicon.proofs.Moves.{keeps_all, keeps_words}
 use Rattle.command_line.specs.Command.{command_of, seen}
 use Rattle.silicon.proofs.RunLemmas.{leaves_command, leaves_no_command, leaves_nothing, tells_usage, tells_nothing}
 use Rattle.silicon.proofs.RunLemmas.{causes_no_command, for_words_nothing}
@@ -86,15 +86,18 @@ returns-in-Err-clause-words g c = for_words_nothing (command_of c.args.words.now
 
 pub returns-in-Ok-Some-clause-parts : goal.returns-in-Ok-Some-clause-parts
 returns-in-Ok-Some-clause-parts g c =
-    keeps_command _ _ (command_of c.args.words.now.items) (seen c.in-Ok-Some.command) c.run_command.result
+    keeps_words _ _ _ _ _ (command_of c.args.words.now.items) (Some (seen c.in-Ok-Some.command)) c.run_command.result
     ((rw (c.in-Ok-Some.field-0-is, c.in-Ok-Some.command-is) at c.in-Ok-Some.ensures)
     ∙ ap command_of c.deref.ensures.value) c.run_command.ensures.parts
 
 pub returns-in-Ok-None-clause-parts : goal.returns-in-Ok-None-clause-parts
-returns-in-Ok-None-clause-parts g c = keeps_all _ _ (command_of c.args.words.now.items) c.say.result refl
+returns-in-Ok-None-clause-parts g c =
+    keeps_words _ _ _ _ _ (command_of c.args.words.now.items) None c.say.result
+    ((rw c.in-Ok-None.field-0-is at c.in-Ok-None.ensures) ∙ ap command_of c.deref.ensures.value) refl
 
 pub returns-in-Err-clause-parts : goal.returns-in-Err-clause-parts
-returns-in-Err-clause-parts g c = keeps_all _ _ (command_of c.args.words.now.items) NoMemory refl
+returns-in-Err-clause-parts g c =
+    keeps_all _ _ _ _ _ (command_of c.args.words.now.items) NoMemory (λ e. cc) refl
 
 pub returns-in-Ok-Some-clause-made : goal.returns-in-Ok-Some-clause-made
 returns-in-Ok-Some-clause-made g c =
