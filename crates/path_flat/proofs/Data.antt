@@ -11,9 +11,9 @@ use Rattle.path_form.specs.declared.path.DataPath.{DataPath}
 use Rattle.path_form.specs.Shape.{rank}
 use Rattle.path_form.specs.Showing.{path_nets}
 use Rattle.path_flat.specs.Numbered.{total}
-use Rattle.path_flat.specs.Numbers.{parts_of}
-use Rattle.path_flat.specs.Sources.{element_in, path_source}
-use Rattle.path_flat.proofs.Elements.{HasPart, has_part, net_at}
+use Rattle.path_sources.specs.Sources.{parts_of}
+use Rattle.path_sources.specs.Sources.{element_in, path_source}
+use Rattle.path_sources.proofs.Elements.{HasPart, has_part, net_at}
 use Rattle.path_flat.proofs.Fed.{NoLatch}
 use Rattle.path_flat.proofs.PadInputs.{parts_net}
 use Rattle.path_flat.proofs.Stepping.{net_within}

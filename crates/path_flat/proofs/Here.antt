@@ -10,13 +10,14 @@ use Rattle.path_form.specs.declared.path.DataPath.{DataPath}
 use Rattle.path_form.specs.Shape.{rank}
 use Rattle.path_form.specs.Showing.{path_nets}
 use Rattle.path_flat.specs.declared.places.Place.{Place}
-use Rattle.path_flat.specs.declared.sources.Source.{Source}
+use Rattle.path_sources.specs.declared.sources.Source.{Source}
 use Rattle.path_flat.specs.Adding.{IsElementAdded, IsReady}
 use Rattle.path_flat.specs.Numbered.{IsNumberedTo, total}
-use Rattle.path_flat.specs.Numbers.{HasShape, parts_of, row_size, spot_of}
+use Rattle.path_flat.specs.Numbers.{HasShape, row_size, spot_of}
+use Rattle.path_sources.specs.Sources.{parts_of}
 use Rattle.path_flat.specs.Order.{places_of}
-use Rattle.path_flat.specs.Sources.{element_in, path_source}
-use Rattle.path_flat.proofs.Elements.{HasPart, has_part}
+use Rattle.path_sources.specs.Sources.{element_in, path_source}
+use Rattle.path_sources.proofs.Elements.{HasPart, has_part}
 use Rattle.path_flat.proofs.Ranks.{length_places, rank_at}
 use Rattle.path_flat.proofs.Room.{HasRoom, inputs_enough, nets_enough}
 use Rattle.path_flat.proofs.Stepping.{counted_once, ready_below, within_net}
@@ -97,7 +98,7 @@ has_room p n e rows part shape = by_band n.band part.at part.band
         let w = slice_get_within p.control n.net part.part at in let s = shape.first in omega (arith, w, s)
     by_band (suc k) at l =
         let w = slice_get_within p.slices.net n.net part.part
-        (sym (ap (λ (xs : List Part). slice_get xs n.net) (Rattle.path_flat.proofs.Elements.slice_parts p k)) ∙ at) in
+        (sym (ap (λ (xs : List Part). slice_get xs n.net) (Rattle.path_sources.proofs.Elements.slice_parts p k)) ∙ at) in
         let s = shape.others k (omega (arith, l)) in omega (arith, w, s)
 
 pub shape_kept : (w c s : ℕ) (old new : List (List NetId)) → HasShape w c s old

@@ -11,9 +11,9 @@ use Rattle.nor_net.specs.declared.net.Part.TheVariants.{Input, Gate, Latch}
 use Rattle.nor_net.specs.declared.net.Phase.{Phase}
 use Rattle.nor_net.specs.Elements.{Spot}
 use Rattle.nor_net.specs.Shape.{Fed, IsAdded, kind_of}
-use Rattle.path_flat.specs.declared.sources.Source.{Source}
+use Rattle.path_sources.specs.declared.sources.Source.{Source}
 use Rattle.path_flat.specs.Adding.{IsElementAdded}
-use Rattle.path_flat.specs.Sources.{element_in}
+use Rattle.path_sources.specs.Sources.{element_in}
 
 module _ (own : List Part) (n w band : ℕ) (source : Source) (of : Spot → NetId) (old new : List Part) (phase : Phase)
     (source_of : Option NetId) (kind : NetKind) where

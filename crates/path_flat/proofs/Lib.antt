@@ -1,12 +1,9 @@
 mod PadRows
-mod Telling
 mod Room
 mod Ranks
-mod Elements
 mod Stepping
 mod Numbering
 mod Latches
-mod Ends
 mod Fed
 mod Here
 mod PadInputs

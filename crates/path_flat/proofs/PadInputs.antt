@@ -20,12 +20,12 @@ use Rattle.path_form.specs.Nets.{control_part, slice_part}
 use Rattle.path_form.specs.Shape.{chain_to, entries_of, is_fed, is_input, takes_pad, times}
 use Rattle.path_form.specs.Showing.{path_nets}
 use Rattle.path_form.proofs.Joining.{times_append}
-use Rattle.path_flat.specs.declared.sources.Source.{Source}
-use Rattle.path_flat.specs.declared.sources.Source.TheVariants.{Pad, Below, Above, Bits, Control, Slice}
-use Rattle.path_flat.specs.Numbers.{parts_of}
-use Rattle.path_flat.specs.Sources.{cast_source, chain_source, element_in, lift_source, or_source, path_source}
-use Rattle.path_flat.specs.Sources.{program_source, source_element, told}
-use Rattle.path_flat.proofs.Elements.{HasPart, control_input_is, has_part, slice_input_is, slice_parts, slice_sources}
+use Rattle.path_sources.specs.declared.sources.Source.{Source}
+use Rattle.path_sources.specs.declared.sources.Source.TheVariants.{Pad, Below, Above, Bits, Control, Slice}
+use Rattle.path_sources.specs.Sources.{parts_of}
+use Rattle.path_sources.specs.Sources.{cast_source, chain_source, element_in, lift_source, or_source, path_source}
+use Rattle.path_sources.specs.Sources.{program_source, source_element, told}
+use Rattle.path_sources.proofs.Elements.{HasPart, control_input_is, has_part, slice_input_is, slice_parts, slice_sources}
 
 pad_or : (x y : Source) → or_source x y ≡ Pad → (x ≡ Pad) × (y ≡ Pad)
 pad_or Pad y e = (refl, e)

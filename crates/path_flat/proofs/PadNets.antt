@@ -19,9 +19,9 @@ use Rattle.path_form.specs.Flat.{ArePadsOf, rows_of}
 use Rattle.path_form.specs.Shape.{EntriesFit, PadsFit, entries_of, is_fed, rank, times}
 use Rattle.path_form.specs.Showing.{pad_bits, pad_spot}
 use Rattle.path_flat.specs.Numbered.{IsNumberedTo, total}
-use Rattle.path_flat.specs.Numbers.{parts_of}
+use Rattle.path_sources.specs.Sources.{parts_of}
 use Rattle.path_flat.specs.Rows.{AreBelow}
-use Rattle.path_flat.proofs.Elements.{has_part, net_at, slice_parts}
+use Rattle.path_sources.proofs.Elements.{has_part, net_at, slice_parts}
 use Rattle.path_flat.proofs.PadInputs.{given_pad, pads_of, parts_fed}
 use Rattle.path_flat.proofs.Ranks.{piece_counts, rank_within}
 use Rattle.path_flat.proofs.Stepping.{net_within, within_net}

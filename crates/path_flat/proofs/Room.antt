@@ -20,14 +20,14 @@ use Rattle.path_form.specs.declared.path.Lift.{Lift}
 use Rattle.path_form.specs.declared.path.DataPath.{DataPath}
 use Rattle.path_form.specs.Shape.{chain_to, rank, times}
 use Rattle.path_form.specs.Showing.{path_nets}
-use Rattle.path_flat.specs.declared.sources.Source.{Source}
-use Rattle.path_flat.specs.declared.sources.Source.TheVariants.{Pad, Below, Above, Bits, Control, Slice}
+use Rattle.path_sources.specs.declared.sources.Source.{Source}
+use Rattle.path_sources.specs.declared.sources.Source.TheVariants.{Pad, Below, Above, Bits, Control, Slice}
 use Rattle.path_flat.specs.Adding.{IsElementAdded, inputs_for, nets_for, parts_for}
 use Rattle.path_flat.specs.Numbered.{IsFew}
-use Rattle.path_flat.specs.Numbers.{parts_of}
-use Rattle.path_flat.specs.Sources.{cast_source, chain_source, element_in, lift_source, or_source, path_source}
-use Rattle.path_flat.specs.Sources.{program_source, source_element, told}
-use Rattle.path_flat.proofs.Elements.{HasPart, has_part, slice_parts, slice_sources}
+use Rattle.path_sources.specs.Sources.{parts_of}
+use Rattle.path_sources.specs.Sources.{cast_source, chain_source, element_in, lift_source, or_source, path_source}
+use Rattle.path_sources.specs.Sources.{program_source, source_element, told}
+use Rattle.path_sources.proofs.Elements.{HasPart, has_part, slice_parts, slice_sources}
 
 -- ---- sums over the first n numbers
 

@@ -15,13 +15,14 @@ use Rattle.path_form.specs.declared.path.DataPath.{DataPath}
 use Rattle.path_form.specs.Shape.{is_input, rank, takes_pad, times}
 use Rattle.path_form.specs.Showing.{path_nets}
 use Rattle.path_flat.specs.declared.places.Place.{Place}
-use Rattle.path_flat.specs.declared.sources.Source.{Source}
-use Rattle.path_flat.specs.declared.sources.Source.TheVariants.{Pad, Below, Above, Bits, Control, Slice}
+use Rattle.path_sources.specs.declared.sources.Source.{Source}
+use Rattle.path_sources.specs.declared.sources.Source.TheVariants.{Pad, Below, Above, Bits, Control, Slice}
 use Rattle.path_flat.specs.Feeding.{IsFedAt, MayTakeAt}
 use Rattle.path_flat.specs.Numbered.{IsFew, IsNumberedTo, total}
-use Rattle.path_flat.specs.Numbers.{parts_of, spot_of}
-use Rattle.path_flat.specs.Sources.{element_in, path_source, source_element}
-use Rattle.path_flat.proofs.Elements.{gate_is}
+use Rattle.path_flat.specs.Numbers.{spot_of}
+use Rattle.path_sources.specs.Sources.{parts_of}
+use Rattle.path_sources.specs.Sources.{element_in, path_source, source_element}
+use Rattle.path_sources.proofs.Elements.{gate_is}
 use Rattle.path_flat.proofs.Fed.{NoLatch, few_fed, fed_more, unfed, unfed_more}
 use Rattle.path_flat.proofs.Here.{IsHere, own_at}
 use Rattle.path_flat.proofs.PadInputs.{pad_given, pads_of, parts_net, parts_take}

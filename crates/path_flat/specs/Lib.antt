@@ -1,4 +1,3 @@
-pub mod Sources
 pub mod Order
 pub mod Numbers
 pub mod Rows

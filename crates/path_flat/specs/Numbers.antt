@@ -2,18 +2,12 @@
 use Rattle.std.specs.Prelude.{◌≡◌, ◌<◌, ◌+◌, ℕ, suc, List, [], Some, if◌then◌else◌, ◌==◌}
 use Rattle.std.specs.Prelude.{length, slice_get, slice_index_or}
 use Rattle.nor_net.specs.declared.net.NetId.{NetId}
-use Rattle.nor_net.specs.declared.net.Part.{Part}
 use Rattle.nor_net.specs.Elements.{Spot}
-use Rattle.path_form.specs.declared.path.DataPath.{DataPath}
 use Rattle.path_flat.specs.declared.places.Place.{Place}
 
 -- the place as one of a circuit
 abbrev pub spot_of : Place → Spot
 spot_of place = record { band = place.band; net = place.net }
-
--- the nets of a band
-abbrev pub parts_of : DataPath → ℕ → List Part
-parts_of p band = if band == 0 then p.control else p.slices.net
 
 -- the number of a net, 0 where there is none
 abbrev pub number_of : List (List NetId) → Spot → NetId

@@ -5,13 +5,13 @@ ghost use Rattle.nor_net.specs.Elements.{Low, Nor, spot};
 ghost use Rattle.nor_net.specs.Shape.{Fed};
 ghost use Rattle.path_flat.specs.Adding.{IsElementAdded, IsReady};
 ghost use Rattle.path_flat.specs.Numbers.{number_of};
-ghost use Rattle.path_flat.specs.Sources.{element_in, source_element};
+ghost use Rattle.path_sources.specs.Sources.{element_in, source_element};
 
 use crate::numbers::Numbers;
 use crate::places::Place;
-use crate::sources::Source;
 use mp_base::{List, NoMemory};
 use nor_net::{Net, NetId, NetKind};
+use path_sources::Source;
 use std::alloc::Global;
 
 // A net set to 0: a gate on a gate without inputs.

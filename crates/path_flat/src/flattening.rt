@@ -3,21 +3,22 @@
 ghost use Rattle.std.specs.Prelude.{◌≡◌, ℕ, [], All, IfOk, OnOk, length};
 ghost use Rattle.nor_net.specs.Elements.{Spot};
 ghost use Rattle.path_form.specs.Flat.{HasNoOtherInputs, IsFewFlat, IsFlat};
-ghost use Rattle.path_flat.specs.Numbers.{HasShape, number_of, parts_of};
+ghost use Rattle.path_flat.specs.Numbers.{HasShape, number_of};
+ghost use Rattle.path_sources.specs.Sources.{parts_of};
 ghost use Rattle.path_flat.specs.Order.{places_of};
 ghost use Rattle.path_flat.specs.Numbered.{IsFew, IsNumbered, IsNumberedTo, IsWhole, total};
 ghost use Rattle.path_flat.specs.Rows.{AreBelow, AreBits, IsWholeWith};
-ghost use Rattle.path_flat.specs.Sources.{path_source, source_of};
+ghost use Rattle.path_sources.specs.Sources.{path_source, source_of};
 
 use crate::adding::add;
 use crate::feeding::feed;
 use crate::numbers::Numbers;
 use crate::places::{Place, places};
 use crate::rows::rows_of;
-use crate::sources::Sources;
 use mp_base::{List, NoMemory};
 use nor_net::{Net, NetId};
 use path_form::{DataPath, Flattened};
+use path_sources::Sources;
 use std::alloc::Global;
 
 // The net of a band.
@@ -50,7 +51,7 @@ fn number_each(
 {
     for place in places {
         let own = net_of(path, place.band);
-        let source = sources.source(*place);
+        let source = sources.source(place.band, place.net);
         let id = add(alloc, own, path.width, *place, source, numbers, net)?;
         numbers.set(*place, id);
     }

@@ -7,6 +7,5 @@ mod flattening;
 mod numbers;
 mod places;
 mod rows;
-mod sources;
 
 pub use flattening::flatten;

@@ -21,8 +21,6 @@ use Rattle.rtl_form.specs.declared.rtl.Rtl.{Rtl}
 use Rattle.rtl_form.specs.Cost.{cost}
 use Rattle.rtl_form.specs.Sound.{IsSound}
 use Rattle.path_form.specs.declared.path.DataPath.{DataPath}
-use Rattle.path_values.specs.Allocated.{AllocatedRealizes}
-use Rattle.path_values.specs.Realizing.{RealizedShows}
 use Rattle.slice_chip.specs.Columns.{ColumnsAreUsed, IsUsed}
 use Rattle.slice_chip.specs.Ends.{EndsAreMarked, IsMarkedAt}
 use Rattle.slice_chip.specs.Groups.{AreGroups, SlicedHasGroups}
@@ -41,12 +39,12 @@ module _ (r : Rtl) (p : DataPath) (stands : IsPathFor r p) (control : IsNet p.co
     (f : Plan) (lawful : IsFabric f) (groups : List Tracks) (laid : AreLaid p f groups)
   where
     abbrev same_pads : p.pads ≡ r.pads
-    same_pads = stands.allocated.pads
+    same_pads = stands.pads
 
     -- ---- what holds of the fabric
 
     width_is : p.width ≡ r.width
-    width_is = stands.allocated.width
+    width_is = stands.width
 
     groups_good : SlicedHasGroups → AreGroups f groups
     groups_good law = subst (AreGroups f) (sym laid.groups_are) (law p f laid.sliced)
@@ -76,12 +74,12 @@ module _ (r : Rtl) (p : DataPath) (stands : IsPathFor r p) (control : IsNet p.co
     -- ---- the plan
 
     module _ (chip : Chip) (chip_for : IsChipFor p f chip) where
-      pub small_plan : IsSound r → AllocatedRealizes → RealizedShows → PathsArePlanned → RectanglesAreFew → LabelsAreFew
+      pub small_plan : IsSound r → PathsArePlanned → RectanglesAreFew → LabelsAreFew
           → IsSmallPlan r (chip_rects chip) chip.labels
-      small_plan sound realizes shows planned rects labels =
+      small_plan sound planned rects labels =
           record {
             planned = planned r p chip_for.network chip_for.place (chip_rects chip) chip.labels same_pads
-                (shows r p (realizes r p sound stands.allocated)) control slices
+                stands.shows control slices
                 (chip_for.named ∙ ap chip_labels same_pads) (chip_for.laid_out r same_pads);
             few = few_rects;
             few_labels = few_names;

@@ -11,16 +11,18 @@ use Rattle.track_assign.specs.declared.packing.Tracks.{Tracks}
 use Rattle.rtl_form.specs.declared.rtl.Rtl.{Rtl}
 use Rattle.rtl_form.specs.Cost.{cost}
 use Rattle.path_form.specs.declared.path.DataPath.{DataPath}
+use Rattle.path_form.specs.Showing.{ShowsTransfers}
 use Rattle.path_form.specs.Sizes.{IsNarrow, IsWithin}
-use Rattle.path_values.specs.Allocated.{IsAllocated}
 use Rattle.slice_chip.specs.Sliced.{IsSliced}
 use Rattle.chip_laws.specs.Laws.{names_of}
 use Rattle.cif_emit.specs.Emittable.{chip_rects}
 use Rattle.path_chips.specs.Planned.{IsPathLaidOut}
 
--- the path stands for the transfers, and is no larger than what they cost
+-- the path shows the transfers at their pads, in words of their length, and is no larger than what they cost
 pub record IsPathFor (rtl : Rtl) (p : DataPath) : Type 0 where
-  pub allocated : IsAllocated rtl p
+  pub width : p.width ≡ rtl.width
+  pub pads : p.pads ≡ rtl.pads
+  pub shows : ShowsTransfers rtl p
   pub within : IsWithin (cost rtl) p
   pub narrow : IsNarrow (cost rtl) p
 

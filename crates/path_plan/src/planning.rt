@@ -17,7 +17,6 @@ use fabric_laws::laws::{channels_are_sized, fabrics_are_clean};
 use mp_base::{List, NoMemory};
 use path_chips::laws::{paths_are_planned, paths_are_ratioed};
 use path_form::DataPath;
-use path_values::laws::{allocated_paths_realize, realized_paths_show};
 use rtl_form::Rtl;
 use slice_chip::laws::{
     columns_are_used, ends_are_marked, rectangles_are_few, sliced_has_groups, sliced_has_no_under,
@@ -48,7 +47,7 @@ fn rows_of(fabric: &Fabric) -> u32
     count
 }
 
-/// The plan of register transfers for which a data path stands, from the path's fabric: its chip has each label of
+/// The plan of register transfers that a data path shows, from the path's fabric: its chip has each label of
 /// their pads once, in order, at whatever offsets its labels stand it breaks no rule of masks, and each network that
 /// its rectangles draw follows the transfers, from every charge. It has at most 100 (cost + 8) (word length + 1)
 /// rectangles and 64 cost + 5 labels, and can be written as commands. It has at most cost + 8 columns, whatever the
@@ -74,8 +73,6 @@ pub fn planned_of(
     ensures measured { IfOk result (IsMeasured rtl.now) }
     ensures bounded { IfOk result (λ planned. IsBounded rtl.now (chip_rects planned.chip) planned.chip.labels) }
 {
-    allocated_paths_realize();
-    realized_paths_show();
     paths_are_planned();
     paths_are_ratioed();
     rectangles_are_few();

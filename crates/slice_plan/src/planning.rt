@@ -15,6 +15,8 @@ use mp_base::NoMemory;
 use path_form::DataPath;
 use path_laying::{Laid, lay};
 use path_plan::{Planned, planned_of};
+use path_reducing::reduced;
+use path_values::laws::{allocated_paths_realize, realized_paths_show};
 use rtl_form::Rtl;
 use std::alloc::Global;
 
@@ -46,8 +48,11 @@ pub fn plan(alloc: Global, rtl: &Rtl) -> Result<Planned, NoMemory>
     ensures measured { IfOk result (IsMeasured rtl.now) }
     ensures bounded { IfOk result (λ planned. IsBounded rtl.now (chip_rects planned.chip) planned.chip.labels) }
 {
+    allocated_paths_realize();
+    realized_paths_show();
     let allocated = allocate(alloc, rtl)?;
-    let path = turned(alloc, allocated)?;
+    let smaller = reduced(alloc, allocated)?;
+    let path = turned(alloc, smaller)?;
     let Laid { fabric, groups } = lay(alloc, &path)?;
     planned_of(alloc, rtl, &path, fabric, groups)
 }

@@ -16,7 +16,7 @@ pub returns-clause-planned : goal.returns-clause-planned
 returns-clause-planned c =
     small_plan c.args.rtl.now c.args.path.now c.requires.path c.len-control.ensures.shape c.len-slices.ensures.shape
     c.args.fabric c.conditions.ensures.met c.args.groups c.requires.laid c.in_ok-chip.chip c.in_ok-chip.ensures.chip
-    c.requires.sound c.allocated_paths_realize.ensures c.realized_paths_show.ensures c.paths_are_planned.ensures
+    c.requires.sound c.paths_are_planned.ensures
     c.rectangles_are_few.ensures c.labels_are_few.ensures
 
 pub returns-clause-measured : goal.returns-clause-measured

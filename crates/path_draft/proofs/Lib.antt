@@ -1,0 +1,4 @@
+mod Telling
+mod Entries
+mod Paths
+mod Counts

@@ -1,0 +1,4 @@
+pub mod Covering
+pub mod Following
+pub mod Pulling
+pub mod Shown

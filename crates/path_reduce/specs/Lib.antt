@@ -1,0 +1,3 @@
+pub mod Reducing
+pub mod Images
+pub mod Tables

@@ -1,0 +1,2 @@
+mod Smaller
+mod Any

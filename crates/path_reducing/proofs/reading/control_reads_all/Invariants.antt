@@ -1,0 +1,7 @@
+use Rattle.std.proofs.Common.{◌≡◌, true}
+use Rattle.std.specs.List.{AllWithin}
+use Rattle.path_reducing.specs.Reduced.{control_reads}
+use Rattle.path_reducing.proofs.reading.control_reads_all.Given as goal
+
+abbrev pub invariant-loop-id : goal.invariant-loop-id
+invariant-loop-id l = AllWithin (λ id. control_reads l.path id ≡ true) l.ids 0 l.id-index

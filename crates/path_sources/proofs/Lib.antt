@@ -1,0 +1,3 @@
+mod Telling
+mod Ends
+pub mod Elements
