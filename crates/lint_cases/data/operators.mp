@@ -1,0 +1,17 @@
+(program ops 8
+  (def 1 power) (def 2 ground) (def 3 phia) (def 4 phib) (def 5 phic)
+  (def k constant 0x03)
+  (def m constant -1)
+  (def l constant (- 4 1))
+  (def x port input (6 7 8 9 10 11 12 13))
+  (def y port output (14 15 16 17 18 19 20 21))
+  (def b signal output 22)
+  (always
+    (SETQ y x)
+    (setq y (>> x 1))
+    (setq y (+ x x x))
+    (setq b (<= x y))
+    (setq b (> x y))
+    (setq y (* x x))
+    (if b (setq y x))
+    (setq y -1)))

@@ -1,0 +1,15 @@
+(program warn 4
+  (def 1 power) (def 2 ground) (def 3 phia) (def 4 phib) (def 5 phic)
+  (def reset signal input 6)
+  (def a signal input 7)
+  (def unused signal input 8)
+  (def k constant 3)
+  (def n register) (def m register) (def lost flag)
+  (def s signal internal)
+  (def o port output (9 10 11 12))
+  (def nothing signal output 13)
+  (always
+    (setq n 2)
+    (cond (a (setq n 4) (setq m 1)) (t (setq m 2)))
+    (setq lost a)
+    (setq o (word-or n m))))

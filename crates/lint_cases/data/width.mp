@@ -1,0 +1,1 @@
+(program width 65 (def 1 power))
