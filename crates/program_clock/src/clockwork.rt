@@ -34,7 +34,7 @@ impl<'a> Model for Clockwork<'a> {
 }
 
 impl<'a> Clockwork<'a> {
-    ghost use Rattle.std.specs.Prelude.{◌≡◌, length, IfOk};
+    ghost use Rattle.std.specs.Prelude.{◌≡◌, length, map, slice_index, IfOk};
     ghost use Rattle.mp_program.specs.Pads.{output_pads};
     ghost use Rattle.mp_program.specs.Reads.{IsOrder};
     ghost use Rattle.mp_program.specs.State.{IsState, zero_state};
@@ -74,6 +74,23 @@ impl<'a> Clockwork<'a> {
         ensures { IsState self.now.program self.now.state }
     {
         let _ = &self.program;
+    }
+
+    /// What is stored for each definition, which is 0 for what is no register and no flag.
+    pub fn stored(&self) -> &[u64]
+        ensures { result.now ≡ self.now.state.stored }
+    {
+        &self.memory.stored
+    }
+
+    /// The place of the process with this number, or 0 past the last.
+    pub fn place(&self, process: usize) -> usize
+        ensures { result ≡ slice_index (map (λ s. s.place) self.now.state.seats) process }
+    {
+        match self.memory.seats.get(process) {
+            Some(seat) => seat.place,
+            None => 0,
+        }
     }
 
     /// Runs one clock, in an order of evaluation: gives the values of the input pads, and takes those of the output

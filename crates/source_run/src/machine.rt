@@ -29,7 +29,7 @@ impl<'a> Model for Machine<'a> {
 }
 
 impl<'a> Machine<'a> {
-    ghost use Rattle.std.specs.Prelude.{◌≡◌, length, IfOk};
+    ghost use Rattle.std.specs.Prelude.{◌≡◌, length, map, slice_index, IfOk};
     ghost use Rattle.mp_fitting.specs.Fitting.{StateFits};
     ghost use Rattle.mp_program.specs.Pads.{input_pads, output_pads, ArePadsOf, FitsPads};
     ghost use Rattle.mp_program.specs.State.{IsState, zero_state};
@@ -57,6 +57,20 @@ impl<'a> Machine<'a> {
         ensures { ArePadsOf self.now.program result.now }
     {
         self.pads
+    }
+
+    /// What is stored for each definition, which is 0 for what is no register and no flag.
+    pub fn stored(&self) -> &[u64]
+        ensures { result.now ≡ self.now.state.stored }
+    {
+        self.clockwork.stored()
+    }
+
+    /// The place of the process with this number, or 0 past the last.
+    pub fn place(&self, process: usize) -> usize
+        ensures { result ≡ slice_index (map (λ s. s.place) self.now.state.seats) process }
+    {
+        self.clockwork.place(process)
     }
 
     /// A law: a call does nothing, and tells the caller's proof that the program breaks no rule, and that the state is
