@@ -1,0 +1,10 @@
+pub mod Kinds
+pub mod Functions
+pub mod Fits
+pub mod Tree
+pub mod Sound
+pub mod Pieces
+pub mod Laying
+pub mod Expansion
+pub mod Reads
+pub mod Weight

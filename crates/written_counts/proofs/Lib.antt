@@ -1,0 +1,4 @@
+pub mod Sums
+pub mod Equations
+pub mod Counted
+pub mod Weighed

@@ -1,0 +1,5 @@
+pub mod Naming
+pub mod Sorts
+pub mod Standing
+pub mod Rules
+pub mod Breaking
