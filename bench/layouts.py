@@ -1,4 +1,5 @@
-"""CIF files to measure `net` and `sim` with."""
+"""CIF files to measure `net`, `rules` and `sim` with."""
+import math
 import random
 
 PHASES = "L NM;B 2 2 -21 1;B 2 2 -25 1;B 2 2 -29 1;94 phia -21 1;94 phib -25 1;94 phic -29 1;"
@@ -7,6 +8,16 @@ PHASES = "L NM;B 2 2 -21 1;B 2 2 -25 1;B 2 2 -29 1;94 phia -21 1;94 phib -25 1;9
 def box(left, bottom, right, top):
     """The rectangle with these edges, which are even."""
     return "B %d %d %d %d;" % (right - left, top - bottom, (left + right) // 2, (bottom + top) // 2)
+
+
+def gates_and_contacts(count):
+    """An array of gates with a contact above each, which keeps to the lambda rules: five rectangles each."""
+    side = int((count // 5) ** 0.5)
+    spots = [(2250 * i, 3250 * j) for j in range(side) for i in range(side)]
+    boxes = [("ND", 500, 1500, 0), ("NP", 1500, 500, 0),
+             ("NM", 1000, 1000, 1750), ("NP", 1000, 1000, 1750), ("NC", 500, 500, 1750)]
+    return "".join("L %s;" % layer + "".join("B %d %d %d %d;" % (length, width, x, y + up) for x, y in spots)
+                   for layer, length, width, up in boxes) + "E\n"
 
 
 # ---- for the extractor
@@ -48,6 +59,33 @@ def combs(count):
     teeth = count // 2
     return "L NP;%sL NM;%sE\n" % ("".join("B 2 %d %d 0;" % (4 * teeth, 4 * k) for k in range(teeth)),
                                   "".join("B %d 2 %d %d;" % (2, 4 * (k % teeth) + 2, 4 * k) for k in range(teeth)))
+
+
+def comb(count):
+    """A comb whose teeth end at heights of their own: one polygon, which is cut into so many rectangles."""
+    teeth, points = math.isqrt(count), []
+    for k in range(teeth):
+        points += [(4 * k, -2 * (k or teeth)), (4 * k, 2 * k + 2), (4 * k + 2, 2 * k + 2), (4 * k + 2, -2 * k - 2)]
+    return "L NM;P %s;E\n" % " ".join("%d %d" % point for point in points)
+
+
+def comb_of_boxes(count):
+    """The same comb, as the boxes that it is cut into."""
+    teeth = math.isqrt(count)
+    boxes = [box(4 * k, -2, 4 * k + 2, 2) for k in range(teeth)]
+    for j in range(1, teeth):
+        boxes += [box(4 * k, 2 * j, 4 * k + 2, 2 * j + 2) for k in range(j, teeth)]
+        boxes.append(box(0, -2 * j - 2, 4 * j + 2, -2 * j))
+        boxes += [box(4 * k, -2 * j - 2, 4 * k + 2, -2 * j) for k in range(j + 1, teeth)]
+    return "L NM;%sE\n" % "".join(boxes)
+
+
+def named(count):
+    """A box with a label, so many times inside symbols that are nested 60 deep and have names of 1,000 bytes."""
+    text = "DS 1;9 %s;L NM;B 2 2 0 0;94 x 0 0;DF;DS 2;9 %s;%sDF;" % ("l" * 1000, "m" * 1000, "C 1;" * count)
+    for k in range(3, 61):
+        text += "DS %d;9 %s;C %d;DF;" % (k, "%02d" % k + "n" * 998, k - 1)
+    return text + "C 60;E\n"
 
 
 def contacts(count):

@@ -2,9 +2,12 @@
 """What boards print and leave, from the meaning of the loop and of the parts alone.
 
     tests/oracles/boards.py < crates/board_cases/data/boards.txt > crates/board_cases/stdout
+    tests/oracles/boards.py told < ROWS
 
 Each program of the table is written here once more, as a function from its state and inputs to its outputs and next
-state. A row is FILE|CLOCKS|LINKS. What the rows of crates/examples with `board` print was worked out by the same functions.
+state. A row is FILE|CLOCKS|WORDS, where the words are links and then swaps. With `told` a row gives, of a `board` of
+crates/examples with the parts of the program, the stimulus that its inputs are, the line, and what it prints; what a
+stored program shows in clock 0, before its reset, is the circuit's own.
 """
 import sys
 
@@ -86,9 +89,35 @@ def parts():
     return [Watch(), Number('echo', lambda n, s: s)]
 
 
-def links_of(words, inputs, outputs, names):
-    links = []
+def own_parts():
+    return [Number('counter', lambda n, s: n + 1), Number('shifter', lambda n, s: 2 * n + s % 2),
+            Number('echo', lambda n, s: s), Memory()]
+
+
+def swap_of(word, clocks, names, links, swaps):
+    """K, OLD and NEW of a swap word, or None where B3 is broken."""
+    fields = word[1:].split(':')
+    if len(fields) != 3 or not fields[0].isascii() or not fields[0].isdigit() or len(fields[0]) > 5:
+        return None
+    clock, old, new = int(fields[0]), fields[1], fields[2]
+    linked = [link[0] for link in links]
+    if clock >= clocks or any(clock < swap[0] for swap in swaps):
+        return None
+    if old not in linked or new not in names or new in linked or any(new == swap[2] for swap in swaps):
+        return None
+    return clock, old, new
+
+
+def plan_of(words, clocks, inputs, outputs, names):
+    """Links and swaps, or the first rule that is broken. Names are told apart: no two parts have one name."""
+    links, swaps = [], []
     for word in words:
+        if word.startswith('@'):
+            swap = swap_of(word, clocks, names, links, swaps)
+            if swap is None:
+                return 'B3 ' + word
+            swaps.append(swap)
+            continue
         fields = word.split(':')
         if len(fields) != 3 or fields[0] not in names:
             return 'B1 ' + word
@@ -99,8 +128,10 @@ def links_of(words, inputs, outputs, names):
             return 'B2 ' + word
         if any(driven == link[2] for link in links):
             return 'B2 ' + word
+        if swaps:
+            return 'B3 ' + word
         links.append((part, seen, driven))
-    return links
+    return links, swaps
 
 
 def driver(driven, links):
@@ -114,32 +145,71 @@ def told(board):
     return '    ' + ' '.join(f'{part.name} {part.drives()}' for part in board)
 
 
-def row(line):
-    file, clocks, words = line.split('|')
+def play(file, clocks, links, swaps, board):
+    """What is given and shown in each clock. An entry of the board keeps its name when a swap replaces its part."""
     inputs, outputs, state, step = PROGRAMS[file]
     stores = state is not None
-    board = parts()
-    links = links_of(words.split(' '), inputs, outputs, [part.name for part in board])
-    print(line)
-    if isinstance(links, str):
-        print('    ' + links)
-        return
-    first = lambda name: next(part for part in board if part.name == name)
-    for clock in range(int(clocks)):
+    entries = {part.name: part for part in board}
+    lines = []
+    for clock in range(clocks):
+        for when, old, new in swaps:
+            if when == clock:
+                entries[old] = entries.pop(new)
         given = {}
         for name, width in inputs:
             part = driver(name, links)
             if part is not None:
-                given[name] = first(part).drives() % 2 ** width
+                given[name] = entries[part].drives() % 2 ** width
             else:
                 given[name] = 1 if name == 'reset' and clock == 0 else 0
         shown, state = step(state, given)
-        print('    ' + str(clock) + ''.join(f' {name}={shown[name]}' for name, width in outputs))
+        lines.append((given, shown))
         if not stores or clock > 0 and any(name == 'reset' for name, width in inputs):
             for part, seen, driven in links:
-                first(part).clock(shown[seen])
+                entries[part].clock(shown[seen])
+    return lines
+
+
+def row(line):
+    file, clocks, words = line.split('|')
+    inputs, outputs, state, step = PROGRAMS[file]
+    board = parts()
+    plan = plan_of(words.split(' '), int(clocks), inputs, outputs, [part.name for part in board])
+    print(line)
+    if isinstance(plan, str):
+        print('    ' + plan)
+        return
+    for clock, (given, shown) in enumerate(play(file, int(clocks), *plan, board)):
+        print('    ' + str(clock) + ''.join(f' {name}={shown[name]}' for name, width in outputs))
     print(told(board))
 
 
+def pad(name, width):
+    return name if width == 1 else f'{name} {width}'
+
+
+def told_row(line):
+    file, clocks, words = line.split('|')
+    inputs, outputs, state, step = PROGRAMS[file]
+    board = own_parts()
+    plan = plan_of(words.split(' '), int(clocks), inputs, outputs, [part.name for part in board])
+    command = f'board s c {clocks} {words}'
+    if isinstance(plan, str):
+        print(command)
+        print('    Refused')
+        print('    error ' + plan)
+        return
+    lines = play(file, int(clocks), *plan, board)
+    stimulus = ['in ' + pad(*each) for each in inputs] + ['out ' + pad(*each) for each in outputs]
+    stimulus += ['clock ' + ' '.join(f'{name}={given[name]}' for name, width in inputs) for given, shown in lines]
+    print('lines t ' + ' / '.join(stimulus))
+    print(command)
+    print('    Done')
+    for clock, (given, shown) in enumerate(lines):
+        first = state is not None and clock == 0
+        print('    ' + str(clock) + ''.join(f' {name}={"?" if first else shown[name]}' for name, width in outputs))
+    print('    the size of c at the end of t')
+
+
 for line in sys.stdin.read().splitlines():
-    row(line)
+    (told_row if sys.argv[1:] == ['told'] else row)(line)

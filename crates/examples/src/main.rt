@@ -33,7 +33,7 @@ impl Exits for Whole {
 }
 
 /// The lists of runs, each a file.
-const LISTS: [&str; 14] = [
+const LISTS: [&str; 15] = [
     "examples.txt",
     "sources.txt",
     "texts.txt",
@@ -43,6 +43,7 @@ const LISTS: [&str; 14] = [
     "cif.txt",
     "drawn.txt",
     "circuits.txt",
+    "rules.txt",
     "words.txt",
     "commands.txt",
     "chips.txt",
