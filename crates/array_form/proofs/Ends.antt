@@ -158,9 +158,12 @@ module _ (b top : ℕ) (row : ℕ → ℕ) (y : Columns) (parts : List Part) whe
   -- and of a phase, but for the column of the phase itself, where its line is tapped
   pub phase_carried : (ph : Phase) (c : ℕ) → Member (phase_marks y parts ph) c
       → (c ≡ y.first_phase + phase_number ph) ⊎ MarkedAt all b (suc (row (length parts + phase_number ph))) c
+      ⊎ Member y.phase_more c
   phase_carried ph c (inl e) = inl (sym e)
-  phase_carried ph c (inr k) =
-      let w = member_map (home y) (numbers (beats ph) parts) c k in
-      let u = member_filter (λ j. beats ph (slice_get parts j)) (range_with_len 0 (length parts)) w.0 w.1 in
-      inr (subst (MarkedAt all b (suc (row (length parts + phase_number ph)))) w.2
-      (beat_there ph w.0 (slice_get parts w.0) refl u.1))
+  phase_carried ph c (inr k) = elim (member_append (map (home y) (numbers (beats ph) parts)) y.phase_more c k) [
+    | inl k ↦ (let w = member_map (home y) (numbers (beats ph) parts) c k in
+        let u = member_filter (λ j. beats ph (slice_get parts j)) (range_with_len 0 (length parts)) w.0 w.1 in
+        inr (inl (subst (MarkedAt all b (suc (row (length parts + phase_number ph)))) w.2
+        (beat_there ph w.0 (slice_get parts w.0) refl u.1))))
+    | inr k ↦ inr (inr k)
+  ]

@@ -19,3 +19,4 @@ pub mod Below
 pub mod Distinct
 pub mod Greatest
 pub mod Phases
+pub mod West

@@ -49,6 +49,10 @@ phase_pin nets first p = record { segment = nets + p; at = Column (first + p) }
 abbrev pub phase_pins : ℕ → ℕ → List Pin
 phase_pins nets first = map (phase_pin nets first) (range_with_len 0 3)
 
+-- a segment that begins in column 1, at the west edge
+abbrev pub west_pin : NetId → Pin
+west_pin i = record { segment = i.0; at = Column 1 }
+
 -- a net whose column has only a line of its own
 abbrev pub stub_pin : List Bool → ℕ → List Pin
 stub_pin stubs n = cond (slice_index_or stubs n false) (pin n n ∷ []) []

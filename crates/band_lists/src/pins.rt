@@ -1,9 +1,9 @@
 //! Where segments are marked: in the columns of nets, in those of taps and in those of the phases.
 
-ghost use Rattle.std.specs.Prelude.{◌≡◌, ◌<◌, ◌+◌, ◌^◌, [], ◌∷◌, ◌++◌, if◌then◌else◌, OnOk, length};
+ghost use Rattle.std.specs.Prelude.{◌≡◌, ◌<◌, ◌+◌, ◌^◌, [], ◌∷◌, ◌++◌, if◌then◌else◌, OnOk, length, map};
 ghost use Rattle.std.specs.Prelude.{slice_get};
 ghost use Rattle.band_lists.specs.Pins.{pin, net_pins, gate_pins, latch_pins, part_pins, phase_pins};
-ghost use Rattle.band_lists.specs.Pins.{stub_pins};
+ghost use Rattle.band_lists.specs.Pins.{stub_pins, west_pin};
 
 use crate::parts::{gate_inputs, kind_at, phase_index};
 use nor_net::{Net, NetId, NetKind, Phase};
@@ -117,6 +117,19 @@ pub fn push_stubs(pins: &mut Vec<Pin>, stubs: &[bool]) -> Result<(), AllocError>
 {
     for n in 0..stubs.len() {
         push_stub(pins, n as u32, stubs[n])?;
+    }
+    Ok(())
+}
+
+/// The pins of nets whose segments begin at the west edge.
+pub fn push_west(pins: &mut Vec<Pin>, west: &[NetId]) -> Result<(), AllocError>
+    ensures { OnOk result (pins.new.items ≡ pins.old.items ++ map west_pin west.now) }
+{
+    for net in west {
+        pins.push(Pin {
+            segment: net.0,
+            at: At::Column(1),
+        })?;
     }
     Ok(())
 }

@@ -2,7 +2,7 @@
 use Rattle.std.proofs.Common.{ℕ, ◌≡◌, ◌∙◌, ◌+◌, ◌*◌, ◌≤◌, refl, ap, sym, subst, List, [], ◌∷◌, length, map, arith}
 use Rattle.std.specs.Prelude.{All, codes, false, ℤ, pos, ◌+ℤ◌, ◌≤ℤ◌}
 use Rattle.std.proofs.lemmas.Int.{ints}
-use Rattle.std.proofs.Math.Nat.{mul-le-mul_left}
+use Rattle.std.proofs.Math.Nat.{mul-le-mul_left, le-max_left, le-max_right, max-le, le_trans}
 use Rattle.lam_geom.specs.declared.label.FlatLabel.{FlatLabel}
 use Rattle.lam_geom.specs.declared.rect.Rect.{Rect}
 use Rattle.lam_geom.specs.Extent.{ExtentOfSquares, IsAtMost}
@@ -35,7 +35,7 @@ use Rattle.lam_geom.proofs.RuleLaws.{same_clean}
 use Rattle.mask_laws.proofs.SameSquares.{turn}
 use Rattle.compile_laws.proofs.Sizes.{same_sizes}
 use Rattle.compile_laws.proofs.Written.{WrittenIsRead, feed, placed, semicolon}
-use Rattle.compile_laws.specs.Laws.{most_high, most_rects, most_wide, IsBounded, IsSmallChipOf, MakesChips}
+use Rattle.compile_laws.specs.Laws.{most_high, most_rects, most_wide, pad_count, IsBounded, IsSmallChipOf, MakesChips}
 use Rattle.compile_laws.proofs.Sequenced.{shows, settles}
 
 -- what is written of commands that may stand where they do breaks no rule of texts
@@ -73,22 +73,25 @@ module _ (squares : ExtentOfSquares) (rects shapes : List Rect)
   farther : (low high : ℤ) (a b : ℕ) → a ≤ b → high ≤ℤ (low +ℤ pos (500 * a)) → high ≤ℤ (low +ℤ pos (500 * b))
   farther low high a b h k = omega (arith, ints)
 
-  wider : (cost heavy : ℕ) → cost ≤ heavy → most_wide cost ≤ most_wide heavy
-  wider cost heavy h = omega (arith, h)
+  wider : (cost heavy pads : ℕ) → cost ≤ heavy → most_wide cost pads ≤ most_wide heavy pads
+  wider cost heavy pads h = omega (arith, h)
 
-  higher : (cost heavy width : ℕ) → cost ≤ heavy → most_high cost width ≤ most_high heavy width
-  higher cost heavy width h =
+  higher : (cost heavy width pads : ℕ) → cost ≤ heavy → most_high cost width pads ≤ most_high heavy width pads
+  higher cost heavy width pads h =
+      let bands : ℕ → ℕ = λ c. width * (12 * (c + 8) + 36) + 24 * (c + 8) + 96 in
       let m : width * (12 * (cost + 8) + 36) ≤ width * (12 * (heavy + 8) + 36) =
       mul-le-mul_left width (omega (arith, h)) in
-      omega (arith, h, m)
+      let low : bands cost ≤ bands heavy = omega (arith, h, m) in
+      max-le (le_trans low (le-max_left (bands heavy) (60 * pads))) (le-max_right (bands heavy) (60 * pads))
 
-  small_extent : (cost heavy width : ℕ) → cost ≤ heavy
-      → IsAtMost (covered rects) (most_wide cost) (most_high cost width)
-      → IsAtMost (covered shapes) (most_wide heavy) (most_high heavy width)
-  small_extent cost heavy width h most e is =
+  small_extent : (cost heavy width pads : ℕ) → cost ≤ heavy
+      → IsAtMost (covered rects) (most_wide cost pads) (most_high cost width pads)
+      → IsAtMost (covered shapes) (most_wide heavy pads) (most_high heavy width pads)
+  small_extent cost heavy width pads h most e is =
       let m = most e (squares shapes rects back e is) in (
-        farther e.left e.right (most_wide cost) (most_wide heavy) (wider cost heavy h) m.0,
-        farther e.bottom e.top (most_high cost width) (most_high heavy width) (higher cost heavy width h) m.1,
+        farther e.left e.right (most_wide cost pads) (most_wide heavy pads) (wider cost heavy pads h) m.0,
+        farther e.bottom e.top (most_high cost width pads) (most_high heavy width pads)
+            (higher cost heavy width pads h) m.1,
       )
 
 module _
@@ -141,9 +144,11 @@ module _
             record {
               chip = chip;
               few = few_shapes (length drawn.shapes) (length rects) (cost r) (weight p) p.width drawn.few few same.cost;
-              extent = small_extent squares rects drawn.shapes drawn.same (cost r) (weight p) p.width same.cost
-                  (subst (λ w. IsAtMost (covered rects) (most_wide (cost r)) (most_high (cost r) w)) same.width
-                  bounded.extent);
+              extent =
+                  let pads = pad_count r.pads in
+                  small_extent squares rects drawn.shapes drawn.same (cost r) (weight p) p.width pads same.cost
+                  (subst (λ w. IsAtMost (covered rects) (most_wide (cost r) pads) (most_high (cost r) w pads))
+                  same.width bounded.extent);
               sized = same_sizes (covered rects) (covered drawn.shapes) drawn.same bounded.sized;
               clean = same_clean (covered drawn.shapes) (covered rects)
                   (turn (covered rects) (covered drawn.shapes) drawn.same) bounded.clean;

@@ -32,7 +32,7 @@ fn is_small(given: &Stimulus) -> bool
     ensures inputs { IsTrue result → length given.now.pads.inputs < 2 ^ 32 }
     ensures clocks { IsTrue result → length given.now.clocks < 2 ^ 32 }
 {
-    given.pads.inputs.len() < 99 && given.clocks.len() < 9999
+    given.pads.inputs.len() < 999 && given.clocks.len() < 9999
 }
 
 // A stimulus with pads of its own, if its text is short.

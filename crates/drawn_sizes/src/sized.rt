@@ -7,6 +7,7 @@ use lam_geom::{Layer, Rect};
 use mask_net::drawing_of;
 use mp_base::push_number;
 use std::alloc::{AllocError, Global};
+use std::ops::RangeInclusive;
 
 /// A lambda in half-units.
 const LAMBDA: u64 = 500;
@@ -17,6 +18,15 @@ const ROW: u64 = 12;
 /// How high a row of pull-ups is, in lambda.
 const PULL_UPS: u64 = 36;
 
+/// How far the frame reaches west of the columns, in lambda, beside a lane for each pad: a stub and a pad.
+const STUB_AND_PAD: u64 = 50;
+/// How wide a lane of a route is with its gap, in lambda.
+const LANE: u64 = 7;
+/// How far pads stand apart, in lambda, from bottom to bottom, and from top to bottom.
+const PAD: u64 = 60;
+
+const PAD_GAP: u64 = 20;
+
 /// A rectangle of metal, with its edges in lambda from the lower left corner of the chip's columns.
 #[derive(Clone, Copy)]
 struct Metal {
@@ -26,45 +36,63 @@ struct Metal {
     top: u64,
 }
 
-/// The lower left corner of what is drawn, which is 7 lambda right of that of the columns.
+/// The edges of what is drawn, in half-units.
 #[derive(Clone, Copy)]
-struct Corner {
-    x: i64,
-    y: i64,
+struct Edges {
+    left: i64,
+    bottom: i64,
+    right: i64,
+    top: i64,
 }
 
-fn corner_of(shapes: &[Rect]) -> Option<Corner> {
+fn edges_of(shapes: &[Rect]) -> Option<Edges> {
     let [first, ..] = shapes else {
         return None;
     };
-    let mut corner = Corner {
-        x: first.x0,
-        y: first.y0,
+    let mut edges = Edges {
+        left: first.x0,
+        bottom: first.y0,
+        right: first.x1,
+        top: first.y1,
     };
     for shape in shapes {
-        corner.x = corner.x.min(shape.x0);
-        corner.y = corner.y.min(shape.y0);
+        edges.left = edges.left.min(shape.x0);
+        edges.bottom = edges.bottom.min(shape.y0);
+        edges.right = edges.right.max(shape.x1);
+        edges.top = edges.top.max(shape.y1);
     }
-    Some(corner)
+    Some(edges)
 }
 
-impl Corner {
-    fn metal(self, shape: &Rect) -> Metal {
-        Metal {
-            left: shape.x0.abs_diff(self.x) / LAMBDA + 7,
-            bottom: shape.y0.abs_diff(self.y) / LAMBDA,
-            right: shape.x1.abs_diff(self.x) / LAMBDA + 7,
-            top: shape.y1.abs_diff(self.y) / LAMBDA,
+impl Edges {
+    fn width(self) -> u64 {
+        self.right.abs_diff(self.left) / LAMBDA
+    }
+
+    fn height(self) -> u64 {
+        self.top.abs_diff(self.bottom) / LAMBDA
+    }
+
+    /// The metal of a rectangle, unless it is of the frame, which is so wide.
+    fn metal(self, shape: &Rect, frame: u64) -> Option<Metal> {
+        let left = shape.x0.abs_diff(self.left) / LAMBDA;
+        if shape.layer != Layer::NM || left < frame {
+            return None;
         }
+        Some(Metal {
+            left: left.wrapping_sub(frame),
+            bottom: shape.y0.abs_diff(self.bottom) / LAMBDA,
+            right: (shape.x1.abs_diff(self.left) / LAMBDA).wrapping_sub(frame),
+            top: shape.y1.abs_diff(self.bottom) / LAMBDA,
+        })
     }
 }
 
-fn metals_of(alloc: Global, shapes: &[Rect]) -> Option<Vec<Metal>> {
-    let corner = corner_of(shapes)?;
+fn metals_of(alloc: Global, shapes: &[Rect], edges: Edges, frame: u64) -> Option<Vec<Metal>> {
     let mut metals = Vec::new(alloc);
     for shape in shapes {
-        if shape.layer == Layer::NM {
-            metals.push(corner.metal(shape)).ok()?;
+        if let Some(metal) = edges.metal(shape, frame) {
+            metals.push(metal).ok()?;
         }
     }
     Some(metals)
@@ -81,29 +109,39 @@ impl Metal {
         self.is_segment() && bottom <= self.bottom && self.top <= top
     }
 
-    /// Whether it is a segment that, lengthened by a column, lies over this one.
-    fn lies_over(self, column: u64) -> bool {
-        self.left / COLUMN <= column && column <= self.right / COLUMN
+    /// The columns over which it lies, lengthened by one.
+    fn columns(self) -> RangeInclusive<u64> {
+        self.left / COLUMN..=self.right / COLUMN
     }
 }
 
-/// A chip by its metal.
+/// A chip by the metal of its columns, with its pads and its whole extent.
 #[derive(Drop)]
 struct Masks {
     metals: Vec<Metal>,
     right: u64,
     top: u64,
+    pads: u64,
+    edges: Edges,
 }
 
-fn masks_of(alloc: Global, shapes: &[Rect]) -> Option<Masks> {
-    let metals = metals_of(alloc, shapes)?;
+fn masks_of(alloc: Global, shapes: &[Rect], pads: u64) -> Option<Masks> {
+    let edges = edges_of(shapes)?;
+    let frame = LANE.wrapping_mul(pads).wrapping_add(STUB_AND_PAD);
+    let metals = metals_of(alloc, shapes, edges, frame)?;
     let mut right = 0;
     let mut top = 0;
     for metal in &metals {
         right = metal.right.max(right);
         top = metal.top.max(top);
     }
-    Some(Masks { metals, right, top })
+    Some(Masks {
+        metals,
+        right,
+        top,
+        pads,
+        edges,
+    })
 }
 
 impl Masks {
@@ -124,36 +162,43 @@ impl Masks {
         self.right.wrapping_add(7) / COLUMN
     }
 
-    /// How many segments from this height to that lie over a column.
-    fn over(&self, column: u64, bottom: u64, top: u64) -> u64 {
-        let mut count = 0u64;
+    /// Whether the whole is as wide and as high as such columns with such pads are: 43 lambda wider than the columns
+    /// and the lanes, and as high as the bands or the pads.
+    fn is_framed(&self) -> bool {
+        let columns = COLUMN.wrapping_mul(self.columns());
+        let lanes = LANE.wrapping_mul(self.pads);
+        let pads = PAD.wrapping_mul(self.pads).wrapping_sub(PAD_GAP);
+        self.edges.width() == columns.wrapping_add(lanes).wrapping_add(43)
+            && self.edges.height() == self.top.max(pads)
+    }
+
+    /// How many segments from this height to that lie over each column.
+    fn over(&self, alloc: Global, bottom: u64, top: u64) -> Result<Vec<u64>, AllocError> {
+        let mut counts = Vec::new(alloc);
+        for _ in 0..self.columns() {
+            counts.push(0)?;
+        }
         for metal in &self.metals {
-            if metal.is_segment_in(bottom, top) && metal.lies_over(column) {
-                count = count.wrapping_add(1);
+            if metal.is_segment_in(bottom, top) {
+                count_in(&mut counts, *metal);
             }
         }
-        count
+        Ok(counts)
     }
 
-    /// The most segments from this height to that which lie over one column, and the first such column.
-    fn density(&self, bottom: u64, top: u64) -> (u64, u64) {
-        let mut densest = (0, 0);
-        for column in 0..self.columns() {
-            let count = self.over(column, bottom, top);
-            if count > densest.0 {
-                densest = (count, column);
-            }
-        }
-        densest
-    }
-
-    fn push_size(&self, lines: &mut Vec<u8>, tops: &[u64]) -> Result<(), AllocError> {
+    fn push_size(
+        &self,
+        alloc: Global,
+        lines: &mut Vec<u8>,
+        tops: &[u64],
+    ) -> Result<(), AllocError> {
         let pull_ups = PULL_UPS.wrapping_mul(tops.len() as u64);
         push_line(lines, "columns ", self.columns())?;
         push_line(lines, "rows ", self.top.wrapping_sub(pull_ups) / ROW)?;
         let mut bottom = 0;
         for band in 0..tops.len() {
-            let (tracks, column) = self.density(bottom, tops[band]);
+            let counts = self.over(alloc, bottom, tops[band])?;
+            let (tracks, column) = densest(&counts);
             lines.extend_from_slice(b"group ")?;
             push_number(lines, band as u64)?;
             lines.extend_from_slice(b" tracks ")?;
@@ -163,6 +208,26 @@ impl Masks {
         }
         Ok(())
     }
+}
+
+// Counts a segment in each of its columns.
+fn count_in(counts: &mut [u64], metal: Metal) {
+    for column in metal.columns() {
+        if let Some(count) = counts.get_mut(column as usize) {
+            *count = count.wrapping_add(1);
+        }
+    }
+}
+
+// The most segments that lie over one column, and the first such column.
+fn densest(counts: &[u64]) -> (u64, u64) {
+    let mut densest = (0, 0);
+    for column in 0..counts.len() {
+        if counts[column] > densest.0 {
+            densest = (counts[column], column as u64);
+        }
+    }
+    densest
 }
 
 fn push_line(lines: &mut Vec<u8>, word: &str, number: u64) -> Result<(), AllocError> {
@@ -176,17 +241,25 @@ fn drawn(alloc: Global, text: &[u8]) -> Option<Masks>
     ensures { IsSome result → IsDrawn text.now }
 {
     let flat = drawing_of(alloc, Vec::from_slice(alloc, text).ok()?).ok()?;
-    masks_of(alloc, flat.shapes.as_slice())
+    masks_of(
+        alloc,
+        flat.shapes.as_slice(),
+        flat.labels.as_slice().len() as u64,
+    )
 }
 
-// What is told of the size of the chip that masks draw, from the line of its columns on.
+// What is told of the size of the chip that masks draw, from the line of its columns on, if its extent is that of so
+// many columns and pads.
 fn size_of(alloc: Global, text: &[u8]) -> Option<Vec<u8>>
     ensures { IsSome result → IsDrawn text.now }
 {
     let masks = drawn(alloc, text)?;
+    if !masks.is_framed() {
+        return None;
+    }
     let tops = masks.band_tops(alloc)?;
     let mut lines = Vec::new(alloc);
-    masks.push_size(&mut lines, &tops).ok()?;
+    masks.push_size(alloc, &mut lines, &tops).ok()?;
     Some(lines)
 }
 

@@ -11,61 +11,78 @@ use Rattle.std.proofs.lemmas.List.{append-nil, append_assoc, map-append, take_al
 use Rattle.std.proofs.lemmas.List.FromFn.{map-range_with_len_more}
 use Rattle.std.proofs.lemmas.Simd.{map-map}
 use Rattle.mp_base.specs.declared.pad.Pad.{Pad}
+use Rattle.mp_base.specs.PadNames.{supplies}
 use Rattle.mp_base.proofs.Zips.{zip_push}
 use Rattle.switch_net.specs.Pads.{bit_labels, labels_of, word_labels}
 use Rattle.nor_net.specs.declared.net.NetId.{NetId}
+use Rattle.nor_net.specs.declared.net.Phase.TheVariants.{A, B, C}
 use Rattle.nor_net.specs.Elements.{Spot, spot}
-use Rattle.drawing.specs.Draws.{Point, OfNet}
+use Rattle.drawing.specs.Draws.{Point, OfNet, Ground, Power, OfPhase}
 use Rattle.fabric.specs.declared.chip.ChipLabel.{ChipLabel}
 use Rattle.fabric.specs.Plan.{Plan}
 use Rattle.path_form.specs.declared.path.DataPath.{DataPath}
 use Rattle.path_form.specs.Showing.{pad_bits, pad_spot}
 use Rattle.chip_laws.specs.Laws.{names_of}
 use Rattle.chip_laws.specs.Rows.{rows_at}
-use Rattle.path_labels.specs.Labels.{Adds, IsAtPoint, points_in}
+use Rattle.path_labels.specs.declared.corners.Corner.{Corner}
+use Rattle.path_labels.specs.declared.corners.Corners.{Corners}
+use Rattle.path_labels.specs.Corners.{no_corners, with_corner}
+use Rattle.path_labels.specs.Labels.{Adds, IsAtPoint, height_at, label_points, points_in}
 
 -- ---- lists place by place
 
 -- ---- labels
 
 module _ (p : DataPath) (f : Plan) where
-  pub none_added : (labels : List ChipLabel) → Adds p f [] [] labels labels
-  none_added labels = record {
-    named = sym (append-nil (names_of labels));
-    there = λ before z. subst (λ at. AllZip (IsAtPoint p f) at labels) (sym (append-nil before)) z;
+  pub none_added : (old : Corners) → Adds p f [] [] old old
+  none_added old = record {
+    named = sym (append-nil (names_of old.labels));
+    there = λ before z. subst (λ at. AllZip (IsAtPoint p f) at old.labels) (sym (append-nil before)) z;
+    high = sym (append-nil old.heights);
   }
 
-  pub one_added : (at : Point) (name : List ℕ) (old : List ChipLabel) (label : ChipLabel) → label.name ≡ name
-      → IsAtPoint p f at label → Adds p f (at ∷ []) (name ∷ []) old (old ++ label ∷ [])
-  one_added at name old label n h = record {
-    named = map-append (λ (l : ChipLabel). l.name) old (label ∷ []) ∙ ap (λ x. names_of old ++ x ∷ []) n;
-    there = λ before z. zip_push (IsAtPoint p f) before old at label z h;
+  -- the corner is that of the point's net, and has this name
+  pub record IsCorner (at : Point) (name : List ℕ) (corner : Corner) : Type 0 where
+    pub named : corner.label.name ≡ name
+    pub there : IsAtPoint p f at corner.label
+    pub high : corner.height ≡ height_at p f at
+
+  pub one_added : (at : Point) (name : List ℕ) (old : Corners) (corner : Corner) → IsCorner at name corner
+      → Adds p f (at ∷ []) (name ∷ []) old (with_corner old corner)
+  one_added at name old corner is = record {
+    named = map-append (λ (l : ChipLabel). l.name) old.labels (corner.label ∷ [])
+        ∙ ap (λ x. names_of old.labels ++ x ∷ []) is.named;
+    there = λ before z. zip_push (IsAtPoint p f) before old.labels at corner.label z is.there;
+    high = ap (λ h. old.heights ++ h ∷ []) is.high;
   }
 
-  pub both_added : (at bt : List Point) (names more : List (List ℕ)) (a b c : List ChipLabel)
+  pub both_added : (at bt : List Point) (names more : List (List ℕ)) (a b c : Corners)
       → Adds p f at names a b → Adds p f bt more b c → Adds p f (at ++ bt) (names ++ more) a c
   both_added at bt names more a b c x y = record {
-    named = y.named ∙ ap (λ ns. ns ++ more) x.named ∙ append_assoc (names_of a) names more;
-    there = λ before z. subst (λ q. AllZip (IsAtPoint p f) q c) (append_assoc before at bt)
+    named = y.named ∙ ap (λ ns. ns ++ more) x.named ∙ append_assoc (names_of a.labels) names more;
+    there = λ before z. subst (λ q. AllZip (IsAtPoint p f) q c.labels) (append_assoc before at bt)
         (y.there (before ++ at) (x.there before z));
+    high = y.high ∙ ap (λ hs. hs ++ map (height_at p f) bt) x.high
+        ∙ append_assoc a.heights (map (height_at p f) at) (map (height_at p f) bt)
+        ∙ ap (λ hs. a.heights ++ hs) (sym (map-append (height_at p f) at bt));
   }
 
   pub next_added : (at : Point) (name : List ℕ) (points : List Point) (names : List (List ℕ))
-      (old now new : List ChipLabel) (label : ChipLabel) → Adds p f points names old now → new ≡ now ++ label ∷ []
-      → label.name ≡ name → IsAtPoint p f at label → Adds p f (points ++ at ∷ []) (names ++ name ∷ []) old new
-  next_added at name points names old now new label added e n h =
+      (old now new : Corners) (corner : Corner) → Adds p f points names old now → new ≡ with_corner now corner
+      → IsCorner at name corner → Adds p f (points ++ at ∷ []) (names ++ name ∷ []) old new
+  next_added at name points names old now new corner added e is =
       subst (λ l. Adds p f (points ++ at ∷ []) (names ++ name ∷ []) old l) (sym e)
-      (both_added points (at ∷ []) names (name ∷ []) old now (now ++ label ∷ []) added (one_added at name now label n
-      h))
+      (both_added points (at ∷ []) names (name ∷ []) old now (with_corner now corner) added
+      (one_added at name now corner is))
 
   -- ---- the bits of a word
 
-  pub bit_added : (net : NetId) (name : List ℕ) (k : ℕ) (old now new : List ChipLabel) (label : ChipLabel)
+  pub bit_added : (net : NetId) (name : List ℕ) (k : ℕ) (old now new : Corners) (corner : Corner)
       → Adds p f (map (λ k. OfNet (spot (suc k) net)) (range_with_len 0 k)) (word_labels name k) old now
-      → new ≡ now ++ label ∷ [] → label.name ≡ name ++ (codes "." ++ decimal k)
-      → IsAtPoint p f (OfNet (spot (suc k) net)) label
+      → new ≡ with_corner now corner
+      → IsCorner (OfNet (spot (suc k) net)) (name ++ (codes "." ++ decimal k)) corner
       → Adds p f (map (λ k. OfNet (spot (suc k) net)) (range_with_len 0 (k + 1))) (word_labels name (k + 1)) old new
-  bit_added net name k old now new label added e n at =
+  bit_added net name k old now new corner added e is =
       let s : k + 1 ≡ suc k = omega arith in
       let points = λ (j : ℕ). map (λ k. OfNet (spot (suc k) net)) (range_with_len 0 j) in
       let t : points (k + 1) ≡ points k ++ OfNet (spot (suc k) net) ∷ [] =
@@ -73,7 +90,7 @@ module _ (p : DataPath) (f : Plan) where
       subst (λ l. Adds p f l (word_labels name (k + 1)) old new) (sym t)
       (subst (λ m. Adds p f (points k ++ OfNet (spot (suc k) net) ∷ []) (word_labels name m) old new) (sym s)
       (next_added (OfNet (spot (suc k) net)) (name ++ (codes "." ++ decimal k)) (points k) (word_labels name k) old now
-      new label added e n at))
+      new corner added e is))
 
 -- ---- the bits of a pad
 
@@ -97,7 +114,7 @@ word_names : (name : List ℕ) (w : ℕ) → w ≢ 0 → labels_of name w ≡ wo
 word_names name zero h = absurd (h refl)
 word_names name (suc w) h = refl
 
-pub word_added : (p : DataPath) (f : Plan) (pad : Pad) (net : NetId) (w : ℕ) (old new : List ChipLabel)
+pub word_added : (p : DataPath) (f : Plan) (pad : Pad) (net : NetId) (w : ℕ) (old new : Corners)
     → pad.width ≢ 0 → pad.width ≡ w
     → Adds p f (map (λ k. OfNet (spot (suc k) net)) (range_with_len 0 w)) (word_labels pad.name w) old new
     → Adds p f (pad_points pad net) (bit_labels pad) old new
@@ -106,14 +123,14 @@ word_added p f pad net w old new h e added =
     (subst (λ names. Adds p f (map (λ k. OfNet (spot (suc k) net)) (range_with_len 0 w)) names old new)
     (sym (word_names pad.name pad.width h ∙ ap (word_labels pad.name) e)) added)
 
-pub signal_added : (p : DataPath) (f : Plan) (pad : Pad) (net : NetId) (old new : List ChipLabel) (label : ChipLabel)
-    → pad.width ≡ 0 → new ≡ old ++ label ∷ [] → label.name ≡ pad.name → IsAtPoint p f (OfNet (spot 0 net)) label
+pub signal_added : (p : DataPath) (f : Plan) (pad : Pad) (net : NetId) (old new : Corners) (corner : Corner)
+    → pad.width ≡ 0 → new ≡ with_corner old corner → IsCorner p f (OfNet (spot 0 net)) pad.name corner
     → Adds p f (pad_points pad net) (bit_labels pad) old new
-signal_added p f pad net old new label w e named at =
+signal_added p f pad net old new corner w e is =
     subst (λ at. Adds p f at (bit_labels pad) old new) (sym (signal_points pad net w))
     (subst (λ names. Adds p f (OfNet (spot 0 net) ∷ []) names old new) (sym (ap (labels_of pad.name) w))
     (subst (λ l. Adds p f (OfNet (spot 0 net) ∷ []) (pad.name ∷ []) old l) (sym e)
-    (one_added p f (OfNet (spot 0 net)) pad.name old label named at)))
+    (one_added p f (OfNet (spot 0 net)) pad.name old corner is)))
 
 -- ---- the bits of pads
 
@@ -134,13 +151,13 @@ points_more rows row =
     flat_map-append (λ (row : List Spot). map OfNet row) rows (row ∷ [])
     ∙ ap (λ l. points_in rows ++ l) (append-nil (map OfNet row))
 
-module _ (p : DataPath) (f : Plan) (pads : List Pad) (ids : List NetId) (old : List ChipLabel) where
+module _ (p : DataPath) (f : Plan) (pads : List Pad) (ids : List NetId) (old : Corners) where
   -- the labels of the first so many pads
-  abbrev pub AddsFirst : ℕ → List ChipLabel → Type 0
+  abbrev pub AddsFirst : ℕ → Corners → Type 0
   AddsFirst i new =
       Adds p f (points_in (rows_at (take i pads) (take i ids))) (flat_map bit_labels (take i pads)) old new
 
-  pub pad_added : (i : ℕ) (q : Pad) (x : NetId) (now new : List ChipLabel) → i < length pads → i < length ids
+  pub pad_added : (i : ℕ) (q : Pad) (x : NetId) (now new : Corners) → i < length pads → i < length ids
       → AddsFirst i now → Adds p f (pad_points (get_or pads i q) (get_or ids i x)) (bit_labels (get_or pads i q)) now
       new → AddsFirst (i + 1) new
   pad_added i q x now new h k before added =
@@ -159,9 +176,38 @@ module _ (p : DataPath) (f : Plan) (pads : List Pad) (ids : List NetId) (old : L
       (subst (λ l. Adds p f (points_in rows ++ pad_points pad net) l old new) (sym n)
       (both_added p f (points_in rows) (pad_points pad net) names (bit_labels pad) old now new before added)))
 
-  pub all_added : (i : ℕ) (new : List ChipLabel) → length pads ≤ i → length ids ≤ i → AddsFirst i new
+  pub all_added : (i : ℕ) (new : Corners) → length pads ≤ i → length ids ≤ i → AddsFirst i new
       → Adds p f (points_in (rows_at pads ids)) (flat_map bit_labels pads) old new
   all_added i new h k added =
       subst (λ l. Adds p f (points_in (rows_at pads l)) (flat_map bit_labels pads) old new) (take_all i ids k)
       (subst (λ l. Adds p f (points_in (rows_at l (take i ids))) (flat_map bit_labels l) old new)
       (take_all i pads h) added)
+
+-- ---- all labels
+
+abbrev AddsOf : DataPath → Plan → List Pad → List NetId → Corners → Corners → Type 0
+AddsOf p f pads ids old new = Adds p f (points_in (rows_at pads ids)) (flat_map bit_labels pads) old new
+
+-- those of supplies and phases, then of inputs and of outputs
+pub all_labels : (p : DataPath) (f : Plan) (first second third : Corners)
+    → Adds p f (Power ∷ Ground ∷ OfPhase A ∷ OfPhase B ∷ OfPhase C ∷ []) supplies no_corners first
+    → (ins : List Pad) (in_ids : List NetId) → ins ≡ (p.pads).inputs → in_ids ≡ p.inputs
+    → AddsOf p f ins in_ids first second
+    → (outs : List Pad) (out_ids : List NetId) → outs ≡ (p.pads).outputs → out_ids ≡ p.outputs
+    → AddsOf p f outs out_ids second third
+    → Adds p f (label_points p) (supplies ++ (flat_map bit_labels (p.pads).inputs
+    ++ flat_map bit_labels (p.pads).outputs)) no_corners third
+all_labels p f first second third supplied ins in_ids a b inputs outs out_ids d e outputs =
+    let in_points = points_in (rows_at (p.pads).inputs p.inputs) in
+    let out_points = points_in (rows_at (p.pads).outputs p.outputs) in
+    let in_names = flat_map bit_labels (p.pads).inputs in
+    let out_names = flat_map bit_labels (p.pads).outputs in
+    let of_inputs : Adds p f in_points in_names first second =
+    subst (λ pads. AddsOf p f pads p.inputs first second) a
+    (subst (λ ids. AddsOf p f ins ids first second) b inputs) in
+    let of_outputs : Adds p f out_points out_names second third =
+    subst (λ pads. AddsOf p f pads p.outputs second third) d
+    (subst (λ ids. AddsOf p f outs ids second third) e outputs) in
+    both_added p f (Power ∷ Ground ∷ OfPhase A ∷ OfPhase B ∷ OfPhase C ∷ []) (in_points ++ out_points) supplies
+    (in_names ++ out_names) no_corners first third supplied
+    (both_added p f in_points out_points in_names out_names first second third of_inputs of_outputs)

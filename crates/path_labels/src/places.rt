@@ -7,16 +7,14 @@ ghost use Rattle.fabric.specs.Plan.{Plan};
 ghost use Rattle.fabric.specs.Room.{limit};
 ghost use Rattle.fabric.specs.Shape.{base};
 ghost use Rattle.fabric.specs.Switches.Net.{ground, power, segment};
-ghost use Rattle.drawing.specs.Draws.{OfPhase};
+ghost use Rattle.chip_pads.specs.Heights.{port_low};
 ghost use Rattle.chip_laws.specs.Labels.{IsInCorner};
-ghost use Rattle.path_form.specs.declared.path.DataPath.{DataPath};
 ghost use Rattle.slice_chip.specs.Order.{nowhere};
-ghost use Rattle.path_labels.specs.Labels.{IsAtPoint};
 
+use crate::corners::Corner;
 use fabric::{ChipLabel, Fabric, Segment};
 use lam_geom::Layer;
 use mp_base::Name;
-use nor_net::Phase;
 
 // So many lambda, in half-units.
 fn half_units(count: u32) -> i64
@@ -68,48 +66,51 @@ fn height_below(fabric: &Fabric, band: u32) -> u32
     height
 }
 
+// The height of power's port, which is in the row of pull-ups of the lowest band.
+fn power_height(fabric: &Fabric) -> u32
+    ensures { result ≡ port_low fabric.now power }
+{
+    fabric.conditions();
+    12 * fabric.rows()[0] + 27
+}
+
 /// The label of this name on the metal of the segment with this number.
-pub(crate) fn net_label(fabric: &Fabric, number: usize, name: Name) -> ChipLabel
+pub(crate) fn net_corner(fabric: &Fabric, number: usize, name: Name) -> Corner
     requires there { number < length fabric.now.segments }
-    ensures named { result.name ≡ name }
-    ensures there { IsInCorner fabric.now (segment (get_or fabric.now.segments number nowhere)) result }
+    ensures named { result.label.name ≡ name }
+    ensures there { IsInCorner fabric.now (segment (get_or fabric.now.segments number nowhere)) result.label }
+    ensures high { result.height ≡ port_low fabric.now (segment (get_or fabric.now.segments number nowhere)) }
 {
     let segment = segment_of(fabric, number);
     let below = height_below(fabric, segment.band);
-    label_at(
-        name,
-        Layer::NM,
-        20 * segment.first,
-        below + 12 * segment.row + 6,
-    )
+    let height = below + 12 * segment.row + 6;
+    Corner {
+        label: label_at(name, Layer::NM, 20 * segment.first, height),
+        height,
+    }
 }
 
 /// The label of this name on the trunk of power.
-pub(crate) fn power_label(fabric: &Fabric, name: Name) -> ChipLabel
-    ensures named { result.name ≡ name }
-    ensures there { IsInCorner fabric.now power result }
+pub(crate) fn power_corner(fabric: &Fabric, name: Name) -> Corner
+    ensures named { result.label.name ≡ name }
+    ensures there { IsInCorner fabric.now power result.label }
+    ensures high { result.height ≡ port_low fabric.now power }
 {
     fabric.conditions();
-    label_at(name, Layer::NM, 20 * (fabric.columns() - 1) + 7, 0)
+    Corner {
+        label: label_at(name, Layer::NM, 20 * (fabric.columns() - 1) + 7, 0),
+        height: power_height(fabric),
+    }
 }
 
 /// The label of this name on the trunk of ground.
-pub(crate) fn ground_label(name: Name) -> ChipLabel
-    ensures named { result.name ≡ name }
-    ensures there { (f : Plan) → IsInCorner f ground result }
+pub(crate) fn ground_corner(name: Name) -> Corner
+    ensures named { result.label.name ≡ name }
+    ensures there { (f : Plan) → IsInCorner f ground result.label }
+    ensures high { (f : Plan) → result.height ≡ port_low f ground }
 {
-    label_at(name, Layer::NM, 7, 0)
-}
-
-/// The label of this name on the line of a phase.
-pub(crate) fn phase_label(phase: Phase, name: Name) -> ChipLabel
-    ensures named { result.name ≡ name }
-    ensures there { (p : DataPath) (f : Plan) → IsAtPoint p f (OfPhase phase) result }
-{
-    let column = match phase {
-        Phase::A => 1,
-        Phase::B => 2,
-        Phase::C => 3,
-    };
-    label_at(name, Layer::ND, 20 * column + 2, 0)
+    Corner {
+        label: label_at(name, Layer::NM, 7, 0),
+        height: 6,
+    }
 }

@@ -2,14 +2,15 @@
 use Rattle.std.proofs.Common.{◌≡◌, inl, inr, ℕ, ◌<◌, ◌≤◌, Option, Some, None, List, [], ◌∷◌, ◌++◌, length}
 use Rattle.std.proofs.Common.{map}
 use Rattle.std.proofs.Common.{refl, ◌∙◌, ap, subst, arith}
-use Rattle.std.specs.Prelude.{flat_map, slice_get, All}
+use Rattle.std.specs.Prelude.{Contains, flat_map, slice_get, All}
 use Rattle.std.specs.List.{range_with_len}
 use Rattle.std.proofs.lemmas.List.{map-append}
 use Rattle.std.proofs.lemmas.Option.{slice_get_within}
-use Rattle.mp_base.proofs.Members.{Member, member_append, member_flat}
+use Rattle.mp_base.proofs.Members.{Member, map_member, member_append, member_contains, member_flat}
 use Rattle.mp_base.proofs.Lists.{flat_map_same}
 use Rattle.fabric.specs.declared.thing.Mark.{Mark}
 use Rattle.fabric.specs.Room.{limit}
+use Rattle.nor_net.specs.declared.net.NetId.{NetId}
 use Rattle.nor_net.specs.declared.net.Part.TheVariants.{Input}
 use Rattle.array_form.specs.declared.band.Band.{Band}
 use Rattle.array_form.specs.declared.band.Tap.{Tap}
@@ -17,6 +18,7 @@ use Rattle.array_form.specs.Place.{IsBandOf}
 use Rattle.array_form.proofs.Laid.{all_from}
 use Rattle.slice_form.specs.Path.{Path, Cast, Lift, IsPath}
 use Rattle.slice_form.specs.Slices.{base_of}
+use Rattle.slice_form.specs.Whole.{numbers_of}
 use Rattle.slice_joints.specs.Control.{cast_tap, lift_tap, cast_taps, lift_taps, IsControlBand}
 use Rattle.slice_laying.specs.Taps.{control_cast_taps, control_lift_taps}
 use Rattle.path_laying.specs.Tapped.{tap_mark}
@@ -95,10 +97,17 @@ module _ (p : Path) (path : IsPath p) where
   pub taps_in : (band : Band) → IsControlBand p band → All (λ t. t.net.0 < length p.control) band.taps
   taps_in band is = all_from (λ (t : Tap). t.net.0 < length p.control) band.taps (λ t m. (tap_in band is t m).net)
 
+  -- the nets of pads are in the control
+  pub west_in : (band : Band) → IsControlBand p band → (i : NetId) → Member band.west i → i.0 < length p.control
+  west_in band is i m =
+      path.joined 0 i.0 (subst (λ l. Contains l i.0) is.west
+      (member_contains (numbers_of band.west) i.0 (map_member (λ (id : NetId). id.0) band.west i m)))
+
   pub band_of : (band : Band) → IsControlBand p band → base_of p < limit → IsBandOf band p.control
   band_of band is few = record {
     first = (let f = is.first in omega (arith, f));
     nets = taps_in band is;
     columns = all_from (λ (t : Tap). t.column < limit) band.taps
         (λ t m. let l = (tap_in band is t m).last in omega (arith, l, few));
+    west = all_from (λ (i : NetId). i.0 < length p.control) band.west (λ i m. west_in band is i m);
   }

@@ -29,7 +29,7 @@ use Rattle.slice_place.specs.Placed.{IsSliceSize}
 use Rattle.slice_chip.specs.Sliced.{empty}
 use Rattle.path_laying.specs.Laid.{IsSmallPath}
 use Rattle.path_laying.specs.Steps.{IsEmpty, IsHigh}
-use Rattle.path_laying.proofs.BandTaps.{tap_in}
+use Rattle.path_laying.proofs.BandTaps.{tap_in, west_in}
 
 -- a path with few nets, joints and gate inputs, as it is placed
 pub record IsFew (p : Path) : Type 0 where
@@ -168,6 +168,7 @@ module _ (p : Path) (path : IsPath p) (band : Band) (is : IsControlBand p band)
       index = (let e = is.index in omega (arith, e));
       first = (let e = is.first in omega (arith, e));
       taps_in = λ t c. let i = tap_in p path band is t (contains_member band.taps t c) in (i.net, i.first);
+      west_in = λ i c. west_in p path band is i (contains_member band.west i c);
       columns = subst (λ y. suc (end_of y p.control) ≤ columns_wanted p) same
           (wide (suc (end_of (control_columns p) p.control)) (suc (end_of (slice_columns p) p.slice)));
       rows_is = ap (rows_of (empty p (columns_wanted p) control slices)) is.index;

@@ -1,3 +1,4 @@
 mod BandTaps
 mod Emptied
+mod Crossed
 mod Raised

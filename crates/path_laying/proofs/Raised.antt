@@ -1,5 +1,5 @@
 -- The control, the slices and the taps one after another.
-use Rattle.std.proofs.Common.{◌≡◌, ℕ, suc, ◌+◌, ◌*◌, ◌≤◌, Option, Some, None, [], ◌++◌, length, get_or}
+use Rattle.std.proofs.Common.{◌≡◌, ℕ, suc, ◌+◌, ◌*◌, ◌<◌, ◌≤◌, Option, Some, None, [], ◌++◌, length, get_or}
 use Rattle.std.proofs.Common.{true, refl, sym, ◌∙◌, ap, subst, arith}
 use Rattle.std.specs.Prelude.{flat_map, slice_get, slice_index}
 use Rattle.std.specs.List.{range_with_len}
@@ -7,7 +7,7 @@ use Rattle.std.proofs.lemmas.List.{get_or_default, length-append}
 use Rattle.mp_base.proofs.Ranges.{flat_count}
 use Rattle.track_assign.specs.Density.{IsDensity}
 use Rattle.track_assign.specs.declared.packing.Tracks.{Tracks}
-use Rattle.fabric.specs.Plan.{Plan, IsFabric}
+use Rattle.fabric.specs.Plan.{Plan, IsFabric, with_added}
 use Rattle.fabric.specs.Room.{IsRoomy}
 use Rattle.nor_net.specs.declared.net.Part.{Part}
 use Rattle.nor_net.specs.declared.net.Part.TheVariants.{Input, Gate, Latch}
@@ -32,8 +32,11 @@ use Rattle.slice_joints.specs.Control.{IsControlBand}
 use Rattle.slice_place.specs.declared.placing.PlacedSlices.{PlacedSlices}
 use Rattle.slice_place.specs.Placed.{joints, AreSlicesPlaced, HasSlicesSpace, IsSlicesFitted}
 use Rattle.slice_place.proofs.Roomy.{marks_most, joint_marks_most}
-use Rattle.slice_chip.specs.Sliced.{ControlsLeaveRoom, TapsFit, control_cols, empty, with_control}
-use Rattle.path_laying.specs.Steps.{IsEmpty, HasControl, IsControlPlaced, HasSlices, AreSlicesIn}
+use Rattle.slice_chip.specs.Sliced.{ControlsLeaveRoom, TapsFit, IsSliced, control_cols, empty, slices_laid}
+use Rattle.slice_chip.specs.Sliced.{with_control}
+use Rattle.slice_chip.specs.Unders.{UndersFit, unders}
+use Rattle.path_laying.specs.Steps.{IsEmpty, HasControl, IsControlPlaced, HasSlices, AreSlicesIn, IsTapped}
+use Rattle.path_laying.proofs.Crossed.{unders_most}
 use Rattle.path_laying.proofs.Emptied.{IsFew, times_most}
 
 -- each latch of the control has its data
@@ -166,7 +169,19 @@ module _ (p : DataPath) (is_few : IsFew (path_of p)) (f : Plan) (control : Track
               (suc tracks.rows) (slice_index tracks.row)) once);
         };
         told = at.told.groups;
+        rows = record {
+          long = at.long;
+          below = λ k d lt. low tracks at k d lt;
+          few = (let r = rows_few (slice_columns q) q.slice tracks.rows tracks.column at.density in
+              let n = is_few.slices in omega (arith, r, n));
+        };
       }
+    where
+      low : (tracks : Tracks) (at : AreSlicesPlaced q f new placed) → (k d : ℕ) → k < length at.tracks.row
+          → get_or at.tracks.row k d < at.tracks.rows
+      low tracks at k d lt =
+          let b = at.are_tracks.below k (let l = at.long in omega (arith, l, lt)) in
+          subst (λ r. r < at.tracks.rows) (get_or_default at.tracks.row k 0 d lt) b
 
 -- and the taps of the control
 cast_one : (row : ℕ → ℕ) (i : ℕ) (o : Option Cast) → length (control_cast_taps row i o) ≤ 1
@@ -234,4 +249,59 @@ module _ (p : DataPath) (is_few : IsFew (path_of p)) (f : Plan) (control : Track
         segments_fit = (let h = r.segments_fit in omega (arith, s, h));
         lines_fit = (let h = r.lines_fit in omega (arith, l, h));
         marks_fit = (let b = marks_before in omega (arith, m, t, c, b));
+      }
+
+-- the whole path
+abbrev pub sliced_from : (p : DataPath) (early f new : Plan) (control : Tracks) → HasControl (path_of p) early control
+    → HasSlices (path_of p) f control → new ≡ with_taps f (path_of p) (slice_index control.row) → IsSliced p new
+sliced_from p early f new control below above is = record {
+  control = control;
+  slices = above.slices;
+  control_tracks = below.tracks;
+  slice_tracks = above.tracks;
+  control_density = below.density;
+  slice_density = above.density;
+  is = is ∙ ap (λ f. with_taps f (path_of p) (slice_index control.row)) above.is;
+}
+
+-- and the crossings of pads
+module _ (p : DataPath) (f : Plan) (control slices : Tracks) (tapped : IsTapped p f control slices) where
+  pub unders_stand : UndersFit → IsNet p.control → IsNet p.slices.net → IsFabric f
+      → IsFabric (with_added f [] [] (unders (path_of p) control slices))
+  unders_stand law control_net slice_net lawful =
+      subst (λ s. IsFabric (with_added f [] [] (unders (path_of p) control s))) tapped.slices_is
+      (subst (λ c. IsFabric (with_added f [] [] (unders (path_of p) c tapped.sliced.slices))) tapped.control_is
+      (law p control_net slice_net f tapped.sliced lawful))
+
+  abbrev before : Plan
+  before = slices_laid (path_of p) (columns_wanted (path_of p)) tapped.sliced.control tapped.sliced.slices
+
+  sliced_before : HasSlices (path_of p) before tapped.sliced.control
+  sliced_before = record {
+    slices = tapped.sliced.slices;
+    tracks = tapped.sliced.slice_tracks;
+    density = tapped.sliced.slice_density;
+    is = refl;
+  }
+
+  pub unders_roomy : IsFew (path_of p) → IsRoomy f → IsRoomy (with_added f [] [] (unders (path_of p) control slices))
+  unders_roomy is_few r =
+      let row : ℕ → ℕ = slice_index tapped.sliced.control.row in
+      let s = length-append f.segments [] in
+      let l = length-append f.lines [] in
+      let m = length-append f.marks (unders (path_of p) control slices) in
+      let e = ap (λ (z : Plan). length z.marks) tapped.sliced.is in
+      let g = length-append before.marks (control_taps (path_of p) row) in
+      let b = marks_before p is_few before tapped.sliced.control sliced_before in
+      let t = taps_most (path_of p) row in
+      let c = is_few.casts in
+      let w = is_few.width in
+      let u = unders_most p control slices 4096 4096 is_few.control is_few.slices in
+      record {
+        columns_fit = r.columns_fit;
+        bands_fit = r.bands_fit;
+        rows_fit = r.rows_fit;
+        segments_fit = (let h = r.segments_fit in omega (arith, s, h));
+        lines_fit = (let h = r.lines_fit in omega (arith, l, h));
+        marks_fit = omega (arith, m, e, g, b, t, c, w, u);
       }

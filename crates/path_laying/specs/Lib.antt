@@ -1,3 +1,4 @@
 pub mod Laid
 pub mod Steps
 pub mod Tapped
+pub mod Crossed

@@ -1,20 +1,24 @@
 //! The fabric of a data path.
 
-ghost use Rattle.std.specs.Prelude.{◌≡◌, ◌+◌, ◌++◌, ◌∷◌, IfOk, OnOk, length, slice_index};
+ghost use Rattle.std.specs.Prelude.{◌≡◌, ◌+◌, ◌++◌, [], ◌∷◌, IfOk, OnOk, length, slice_index};
 ghost use Rattle.band_lists.specs.Listed.{AreRows};
+ghost use Rattle.fabric.specs.Plan.{with_added};
 ghost use Rattle.slice_chip.specs.Sliced.{AreControlTracks};
+ghost use Rattle.slice_chip.specs.Unders.{unders};
 ghost use Rattle.slice_form.specs.Whole.{path_of};
 ghost use Rattle.slice_joints.specs.Control.{IsControlBand};
 ghost use Rattle.slice_laying.specs.Taps.{control_taps, with_taps};
 ghost use Rattle.path_laying.specs.Laid.{IsLaid, IsSmallPath};
 ghost use Rattle.path_laying.specs.Steps.{AreSlicesIn, HasControl, HasSlices, IsControlPlaced, IsEmpty};
+ghost use Rattle.path_laying.specs.Steps.{IsTapped};
 
 use crate::taps::{push_phases, push_taps};
+use crate::unders::unders;
 use array_form::{Band, Placed};
 use fabric::{Fabric, Mark};
 use mp_base::{List, NoMemory};
 use path_form::DataPath;
-use slice_chip::laws::{controls_leave_room, taps_fit};
+use slice_chip::laws::{controls_leave_room, taps_fit, unders_fit};
 use slice_joints::control::control_band;
 use slice_joints::laws::controls_match;
 use slice_laying::laws::paths_are_placeable;
@@ -142,6 +146,31 @@ fn add_taps(
     Ok(())
 }
 
+// Adds the crossings by which pads reach segments.
+fn add_unders(
+    alloc: Global,
+    path: &DataPath,
+    fabric: &mut Fabric,
+    control: &Tracks,
+    slices: &Tracks,
+) -> Result<(), NoMemory>
+    requires small { IsSmallPath path.now }
+    requires control { AreRows control.now (length path.now.control + 3) }
+    requires slices { AreRows slices.now (length path.now.slices.net + 3) }
+    requires tapped { IsTapped path.now fabric.old control.now slices.now }
+    ensures { OnOk result
+        (fabric.new ≡ with_added fabric.old [] [] (unders (path_of path.now) control.now slices.now)) }
+{
+    unders_fit();
+    // What every net and every fabric keeps.
+    let _nets = path.control.len();
+    let _slices = path.slices.net.len();
+    fabric.conditions();
+    let marks = unders(alloc, path, control, slices)?;
+    fabric.add(&[], &[], &marks)?;
+    Ok(())
+}
+
 // The rows of the control, and then of each slice.
 fn groups_of(control: Placed, slices: PlacedSlices) -> Result<List<Tracks>, AllocError>
     ensures { IfOk result (λ groups. groups ≡ control.groups ++ slices.groups) }
@@ -163,7 +192,8 @@ fn groups_of(control: Placed, slices: PlacedSlices) -> Result<List<Tracks>, Allo
 
 /// The fabric of a data path, just as wide as it wants, in which each band has as many rows as it wants: the control in
 /// band 0 as a Weinberger array, each slice in a band of its own above it, and the lines that join them with their
-/// taps. Its switches draw the path: [`sliced_chips_draw`](slice_chip::laws::sliced_chips_draw).
+/// taps; and the crossings by which pads reach their nets. Its switches draw the path:
+/// [`sliced_chips_draw`](slice_chip::laws::sliced_chips_draw).
 ///
 /// # Errors
 ///
@@ -178,6 +208,8 @@ pub fn lay(alloc: Global, path: &DataPath) -> Result<Laid, NoMemory>
     let rows = placed.groups.at(0);
     let slices = add_slices(alloc, path, &mut fabric, rows)?;
     add_taps(alloc, path, &mut fabric, &band, rows)?;
+    let above = slices.groups.at(0);
+    add_unders(alloc, path, &mut fabric, rows, above)?;
     let groups = groups_of(placed, slices)?;
     Ok(Laid { fabric, groups })
 }

@@ -3,5 +3,6 @@
 
 mod laying;
 mod taps;
+mod unders;
 
 pub use laying::{Laid, lay};

@@ -1,7 +1,14 @@
-mod Bytes
-mod PadCells
+mod Bits
+mod Bare
 mod Points
-mod Sizes
+mod Ported
 mod Standing
+mod Counts
+mod Padding
+mod Bytes
 mod Writing
+mod PadCells
+mod Sizes
+mod Extents
+mod Moving
 mod Plans

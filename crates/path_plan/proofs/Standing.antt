@@ -5,7 +5,6 @@ use Rattle.std.specs.Prelude.{All, AllPairs}
 use Rattle.std.specs.List.{AllZip}
 use Rattle.mp_base.specs.declared.pad.Pads.{Pads}
 use Rattle.mp_base.proofs.Members.{Member}
-use Rattle.lam_geom.specs.declared.rect.Rect.{Rect}
 use Rattle.switch_net.specs.declared.limits.TheConstants.{MOST_NODES_AND_CHANNELS}
 use Rattle.switch_net.specs.declared.network.Network.{Network}
 use Rattle.switch_net.specs.Pads.{chip_labels}
@@ -21,13 +20,13 @@ use Rattle.path_form.specs.declared.path.DataPath.{DataPath}
 use Rattle.path_form.specs.Showing.{path_nets}
 use Rattle.slice_chip.specs.Drawn.{DrawsSliced}
 use Rattle.slice_chip.specs.Order.{AreInOrder}
-use Rattle.slice_chip.specs.Sliced.{IsSliced}
+use Rattle.slice_chip.specs.Unders.{IsLed}
 use Rattle.chip_laws.specs.Fabrics.{FabricLays, IsAt}
 use Rattle.chip_laws.specs.Labels.{LabelsStand}
-use Rattle.chip_laws.specs.Laws.{IsExtracted, names_of, points}
+use Rattle.chip_laws.specs.Laws.{IsExtracted, names_of}
 use Rattle.chip_laws.specs.Rows.{rows_at}
 use Rattle.chip_laws.specs.Sound.{FabricsAreFew, IsOnNet, LabelsFit}
-use Rattle.path_labels.specs.Labels.{IsAtPoint, net_at}
+use Rattle.path_labels.specs.Labels.{IsAtPoint, label_points, net_at}
 use Rattle.path_chips.specs.Planned.{IsPathLaidOut}
 use Rattle.path_plan.proofs.Points.{IsThere, here, is_net, points_there}
 
@@ -48,48 +47,40 @@ on_nets f number place (a ∷ rest) [] z i d h = absurd z
 on_nets f number place (a ∷ rest) (l ∷ ls) z zero d h = record { net = z.0.net; is = z.0.is; on = z.0.on }
 on_nets f number place (a ∷ rest) (l ∷ ls) z (suc i) d h = on_nets f number place rest ls z.1 i d (omega arith)
 
--- the points of the labels of a path's pads
-module _ (p : DataPath) where
-  abbrev pub ins : List (List Spot)
-  ins = rows_at (p.pads).inputs p.inputs
+module _ (p : DataPath) (f : Plan) (led : IsLed p f) (lawful : IsFabric f)
+    (order : AreInOrder p led.bare led.sliced) (number : Net → ℕ) (network : Network)
+    (switched : AreSwitches f number network) (node : Point → ℕ)
+    (drawn : DrawsSliced p (led.sliced).control (led.sliced).slices number network node) (stand : LabelsStand)
+    (labels : List ChipLabel) (there : AllZip (IsAtPoint p f) (label_points p) labels)
+  where
+    abbrev ins : List (List Spot)
+    ins = rows_at (p.pads).inputs p.inputs
 
-  abbrev pub outs : List (List Spot)
-  outs = rows_at (p.pads).outputs p.outputs
+    abbrev outs : List (List Spot)
+    outs = rows_at (p.pads).outputs p.outputs
 
-  pub all_there : (at : Point) → Member (points ins outs) at → IsThere p at
-  all_there =
-      points_there p (p.pads).inputs (p.pads).outputs p.inputs p.outputs (p.whole.pads_fit.0, p.whole.entries_fit.0)
-      (p.whole.pads_fit.1, p.whole.entries_fit.1)
+    are_at : AllZip (IsAt f number node) (label_points p) labels
+    are_at =
+        zip_weaker (IsThere p) (IsAtPoint p f) (IsAt f number node) (label_points p) labels (points_there p)
+        (λ at label h c. record {
+          net = net_at p f at;
+          is = is_net p f led order at h;
+          here = here p f led order number network node drawn at h;
+          on = stand f lawful (net_at p f at) (is_net p f led order at h) label c;
+        }) there
 
-  module _ (f : Plan) (sliced : IsSliced p f) (lawful : IsFabric f) (order : AreInOrder p f sliced)
-      (number : Net → ℕ) (network : Network) (switched : AreSwitches f number network) (node : Point → ℕ)
-      (drawn : DrawsSliced p sliced.control sliced.slices number network node) (stand : LabelsStand)
-      (labels : List ChipLabel) (there : AllZip (IsAtPoint p f) (points ins outs) labels)
-    where
-      are_at : AllZip (IsAt f number node) (points ins outs) labels
-      are_at =
-          zip_weaker (IsThere p) (IsAtPoint p f) (IsAt f number node) (points ins outs) labels all_there
-          (λ at label h c. record {
-            net = net_at p f at;
-            is = is_net p f sliced order at h;
-            here = here p f sliced order number network node drawn at h;
-            on = stand f lawful (net_at p f at) (is_net p f sliced order at h) label c;
-          }) there
+    abbrev Extracted : Network → Pads → Type 0
+    Extracted n pads =
+        IsExtracted n network pads (path_nets p) (rows_at pads.inputs p.inputs) (rows_at pads.outputs p.outputs) node
 
-      abbrev Extracted : Network → Pads → Type 0
-      Extracted n pads =
-          IsExtracted n network pads (path_nets p) (rows_at pads.inputs p.inputs) (rows_at pads.outputs p.outputs) node
-
-      pub laid_out : LabelsFit → FabricsAreFew → FabricLays → thing_count f + 2 ≤ MOST_NODES_AND_CHANNELS
-          → names_of labels ≡ chip_labels p.pads → AllPairs ◌≢◌ (chip_labels p.pads) → (rects : List Rect)
-          → rects ≡ shape f → (rtl : Rtl) → p.pads ≡ rtl.pads → IsPathLaidOut rtl p network node rects labels
-      laid_out fit few lays count named differ rects same rtl of_pads =
-          subst (λ rs. IsPathLaidOut rtl p network node rs labels) (sym same)
-          (λ flat are. (
-            fit f lawful labels (subst (AllPairs ◌≢◌) (sym named) differ)
-                (on_nets f number node (points ins outs) labels are_at) flat are,
-            few f lawful network number switched count,
-            λ n is. subst (Extracted n) of_pads
-                (lays f lawful network number switched p.pads (path_nets p) ins outs node (drawn.draws) drawn.inside
-                labels named are_at flat are n is),
-          ))
+    pub laid_out : LabelsFit → FabricsAreFew → FabricLays → thing_count f + 2 ≤ MOST_NODES_AND_CHANNELS
+        → names_of labels ≡ chip_labels p.pads → AllPairs ◌≢◌ (chip_labels p.pads) → (rtl : Rtl) → p.pads ≡ rtl.pads
+        → IsPathLaidOut rtl p network node (shape f) labels
+    laid_out fit few lays count named differ rtl of_pads flat are = (
+      fit f lawful labels (subst (AllPairs ◌≢◌) (sym named) differ)
+          (on_nets f number node (label_points p) labels are_at) flat are,
+      few f lawful network number switched count,
+      λ n is. subst (Extracted n) of_pads
+          (lays f lawful network number switched p.pads (path_nets p) ins outs node (drawn.draws) drawn.inside
+          labels named are_at flat are n is),
+    )

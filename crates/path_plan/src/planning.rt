@@ -12,14 +12,13 @@ ghost use Rattle.mp_base.specs.declared.limits.TheConstants.{WEIGHT_LIMIT};
 use crate::chips::chip_of;
 use crate::laws::labels_are_few;
 use fabric::{Chip, Fabric};
-use fabric_extent::laws::small_fabrics_are_small;
-use fabric_laws::laws::{channels_are_sized, fabrics_are_clean};
+use framed_chips::laws::framed_chips_are_kept;
 use mp_base::{List, NoMemory};
 use path_chips::laws::{paths_are_planned, paths_are_ratioed};
 use path_form::DataPath;
 use rtl_form::Rtl;
 use slice_chip::laws::{
-    columns_are_used, ends_are_marked, rectangles_are_few, sliced_has_groups, sliced_has_no_under,
+    columns_are_used, ends_are_marked, rectangles_are_few, segments_in_order, sliced_has_groups,
     sliced_is_small,
 };
 use std::alloc::Global;
@@ -48,11 +47,11 @@ fn rows_of(fabric: &Fabric) -> u32
 }
 
 /// The plan of register transfers that a data path shows, from the path's fabric: its chip has each label of
-/// their pads once, in order, at whatever offsets its labels stand it breaks no rule of masks, and each network that
-/// its rectangles draw follows the transfers, from every charge. It has at most 100 (cost + 8) (word length + 1)
-/// rectangles and 64 cost + 5 labels, and can be written as commands. It has at most cost + 8 columns, whatever the
-/// length of words, each but the trunks of ground and power with a line, and one band for each bit beside that of the
-/// control.
+/// their pads once, in order and on a pad of its own, at whatever offsets its labels stand it breaks no rule of masks,
+/// and each network that its rectangles draw follows the transfers, from every charge. It has at most
+/// 100 (cost + 8) (word length + 1) rectangles and 64 cost + 5 labels, and can be written as commands. Its fabric has at
+/// most cost + 8 columns, whatever the length of words, each but the trunks of ground and power with a line, and one
+/// band for each bit beside that of the control.
 ///
 /// # Errors
 ///
@@ -78,13 +77,11 @@ pub fn planned_of(
     rectangles_are_few();
     labels_are_few();
     sliced_is_small();
-    sliced_has_no_under();
     sliced_has_groups();
     ends_are_marked();
     columns_are_used();
-    small_fabrics_are_small();
-    channels_are_sized();
-    fabrics_are_clean();
+    framed_chips_are_kept();
+    segments_in_order();
     // What every net and every fabric keeps.
     let _control = path.control.len();
     let _slices = path.slices.net.len();

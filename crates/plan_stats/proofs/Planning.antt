@@ -1,6 +1,8 @@
 -- A plan of transfers that show what a program shows is one of a chip of the program.
-use Rattle.std.proofs.Common.{◌+◌, ◌∙◌, ◌∷◌, ap, arith, Result, Ok, Err, IfOk, suc}
-use Rattle.std.specs.Prelude.{replicate, sum_by}
+use Rattle.std.proofs.Common.{◌+◌, ◌*◌, ◌∙◌, ◌∷◌, ap, subst, arith, length, Result, Ok, Err, IfOk, suc}
+use Rattle.std.specs.Prelude.{max, replicate, sum_by}
+use Rattle.lam_geom.specs.Extent.{IsAtMost}
+use Rattle.lam_geom.specs.Squares.{covered}
 use Rattle.mp_base.specs.declared.refusal.NoMemory.{NoMemory}
 use Rattle.mp_program.specs.declared.program.Program.{Program}
 use Rattle.rtl_form.specs.declared.rtl.Rtl.{Rtl}
@@ -20,7 +22,11 @@ plan_of p r planned make same plan bounded emittable measured = record {
   emittable = emittable;
   makes = λ commands emitted. make r (chip_rects planned.chip) (planned.chip).labels commands same plan bounded emitted;
   fabric = measured.fabric;
-  alone = measured.alone;
+  framed = measured.framed;
+  extent = subst
+      (λ w. IsAtMost (covered (chip_rects planned.chip)) (20 * planned.columns + 7 * length (planned.chip).labels + 43)
+      (max (12 * planned.rows + 36 * suc w) (60 * length (planned.chip).labels)))
+      same.width measured.extent;
   columns = measured.columns;
   narrow = let n = measured.narrow in let c = same.cost in omega (arith, n, c);
   used = measured.used;

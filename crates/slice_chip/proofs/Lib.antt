@@ -9,3 +9,5 @@ pub mod EndsMarked
 pub mod ColumnsUsed
 pub mod NoUnder
 pub mod Grouped
+pub mod Led
+pub mod UndersFit

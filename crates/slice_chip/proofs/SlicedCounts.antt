@@ -386,7 +386,7 @@ module _ (p : DataPath) (control slices : Tracks) where
     taps_few : length whole.casts + length whole.lifts ≤ cost
     taps_few = let c = casts_same in let l = lifts_same in let j = within.joints in omega (arith, c, l, j)
 
-    rects : rectangle_count f ≤ 100 * (cost + 8) * (p.width + 1)
+    rects : rectangle_count f ≤ 50 * (cost + 8) * (p.width + 1)
     rects =
         let b = bands_count in let s = segment_count in let l = line_count in let m = mark_rects in
         let jl = lines_few in let jm = marks_few_joints in let t = taps_few in
@@ -394,7 +394,7 @@ module _ (p : DataPath) (control slices : Tracks) where
         let x = slice_products in let y = input_products in
         omega (arith, b, s, l, m, jl, jm, t, c, g, x, y)
 
-    things : thing_count f + 2 ≤ 100 * (cost + 8) * (p.width + 1)
+    things : thing_count f + 2 ≤ 50 * (cost + 8) * (p.width + 1)
     things =
         let s = segment_count in let l = line_count in let m = mark_count in
         let jl = lines_few in let jm = marks_few_joints in let t = taps_few in
@@ -404,12 +404,12 @@ module _ (p : DataPath) (control slices : Tracks) where
 
 pub rectangles_are_few : RectanglesAreFew
 rectangles_are_few cost p f within sliced =
-    subst (λ f. rectangle_count f ≤ 100 * (cost + 8) * (p.width + 1)) (sym sliced.is)
+    subst (λ f. rectangle_count f ≤ 50 * (cost + 8) * (p.width + 1)) (sym sliced.is)
     (rects p sliced.control sliced.slices cost within)
 
 pub things_are_few : ThingsAreFew
 things_are_few cost p f within sliced =
-    subst (λ f. thing_count f + 2 ≤ 100 * (cost + 8) * (p.width + 1)) (sym sliced.is)
+    subst (λ f. thing_count f + 2 ≤ 50 * (cost + 8) * (p.width + 1)) (sym sliced.is)
     (things p sliced.control sliced.slices cost within)
 
 -- ---- columns and rows

@@ -76,6 +76,7 @@ module _ (p : DataPath) (control_net : IsNet p.control) (slice_net : IsNet p.sli
             ground_is = (d.1).ground;
             power_is = (d.1).power;
             phases = (d.1).phases;
+            beats = λ ph. (d.1).beats 0 ph (omega arith);
             control_nets = λ n lt. (d.1).rows (place 0 n) (omega arith, lt);
             slice_nets = slice_node number network d.0 d.1;
           },

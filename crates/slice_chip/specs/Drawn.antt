@@ -21,7 +21,7 @@ use Rattle.slice_laying.specs.Added.{slice_cols}
 use Rattle.slice_chip.specs.Sliced.{IsSliced, control_cols}
 
 -- The network draws the path; the node of a net is that of its segment in its band, and the node of a phase that of its
--- line.
+-- line, and of its segment in the control's band.
 pub record DrawsSliced (p : DataPath) (control slices : Tracks) (number : Net → ℕ) (network : Network)
     (node : Point → ℕ) : Type 0 where
   pub draws : Draws network.channels (path_nets p) node
@@ -29,6 +29,9 @@ pub record DrawsSliced (p : DataPath) (control slices : Tracks) (number : Net �
   pub ground_is : node Ground ≡ number ground
   pub power_is : node Power ≡ number power
   pub phases : (ph : Phase) → node (OfPhase ph) ≡ number (line (upright (1 + phase_number ph) L 0 p.width))
+  pub beats : (ph : Phase) → node (OfPhase ph)
+      ≡ number (segment (band_segment 0 (control_cols (path_of p)) (slice_index control.row)
+      (length p.control + phase_number ph)))
   pub control_nets : (n : ℕ) → n < length p.control
       → node (OfNet (place 0 n))
       ≡ number (segment (band_segment 0 (control_cols (path_of p)) (slice_index control.row) n))

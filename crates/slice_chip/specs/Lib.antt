@@ -5,3 +5,4 @@ pub mod Order
 pub mod Ends
 pub mod Columns
 pub mod Groups
+pub mod Unders

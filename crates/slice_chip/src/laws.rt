@@ -7,6 +7,7 @@ ghost use Rattle.slice_chip.specs.Groups.{SlicedHasGroups};
 ghost use Rattle.slice_chip.specs.Order.{SegmentsInOrder};
 ghost use Rattle.slice_chip.specs.Sizes.{RectanglesAreFew, SlicedHasNoUnder, SlicedIsSmall, ThingsAreFew};
 ghost use Rattle.slice_chip.specs.Sliced.{ControlsLeaveRoom, TapsFit};
+ghost use Rattle.slice_chip.specs.Unders.{UndersFit};
 
 /// Above a control that was placed in an empty fabric there is room for the slices of its path.
 pub fn controls_leave_room()
@@ -16,6 +17,11 @@ pub fn controls_leave_room()
 /// The taps in the control's band may be added where control and slices were placed.
 pub fn taps_fit()
     ensures { TapsFit }
+{}
+
+/// The crossings of pads may be added to a path's fabric.
+pub fn unders_fit()
+    ensures { UndersFit }
 {}
 
 /// The fabric of a data path draws the path: each net, phase and supply has the node of its segment, line or trunk.
@@ -43,7 +49,8 @@ pub fn segments_in_order()
     ensures { SegmentsInOrder }
 {}
 
-/// The first and the last column of each segment of a path's fabric carry a mark on it.
+/// The last column of each segment of a path's fabric carries a mark on it, and the first one too, unless the segment
+/// is led to the west edge.
 pub fn ends_are_marked()
     ensures { EndsAreMarked }
 {}

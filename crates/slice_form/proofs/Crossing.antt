@@ -27,8 +27,9 @@ use Rattle.slice_form.specs.PathWires.{of_cast_slice, of_lift, of_lift_slice, of
 use Rattle.slice_form.specs.PathWires.{of_bit_ground, of_bit_pull, of_one, of_zero}
 use Rattle.slice_form.specs.Slices.{cast_columns, lift_columns_of, chain_starts, control_stub, control_columns}
 use Rattle.slice_form.specs.Slices.{slice_stub, slice_homed, plain_slice, slice_columns, columns_of, across_of}
+use Rattle.slice_form.specs.Slices.{control_joints, slice_joints, is_west}
 use Rattle.slice_form.specs.Slices.{ground_band, cast_column, lift_column, chain_column, lift_top}
-use Rattle.array_form.specs.Place.{part_is, is_input}
+use Rattle.array_form.specs.Place.{part_is, is_input, west_column}
 
 pub cast_has : (test : Cast → Bool) (at : ℕ) (cs : List Cast) (i : ℕ) (c : Cast) → slice_get cs i ≡ Some c
     → test c ≡ true → Member (cast_columns test at cs) (at + i)
@@ -85,6 +86,15 @@ module _ (p : Path) where
       (list_any (λ (a : Programmed). a.net == g.net) p.programs || slice_stub p g.net)
       (or_left (list_any (λ (a : Programmed). a.net == g.net) p.programs) (slice_stub p g.net)
       (any_passes_from_place (λ (a : Programmed). a.net == g.net) p.programs i g h (same_to g.net g.net refl))))
+
+  -- a joint's column is among those of its net
+  pub control_joint : (n c : ℕ) → Member (control_joints p n) c → Member (marks (control_columns p) p.control n) c
+  control_joint n c m = more_mark (control_columns p) p.control n c
+      (append_left (control_joints p n) (west_column (is_west p.west_signals n)) c m)
+
+  pub slice_joint : (n c : ℕ) → Member (slice_joints p n) c → Member (marks (slice_columns p) p.slice n) c
+  slice_joint n c m = more_mark (slice_columns p) p.slice n c
+      (append_left (slice_joints p n) (west_column (is_west p.west_words n)) c m)
 
 module _ (p : Path) (path : IsPath p) (cols : ℕ → ℕ → List ℕ) (row_of : ℕ → ℕ → ℕ) (rows : ℕ → ℕ) (k : ℕ → ℕ)
     (tracks : (b : ℕ) → b ≤ p.width → AreTracks (columns_of p b) (parts p b) (cols b) (row_of b) (k b)) where
@@ -143,7 +153,7 @@ module _ (p : Path) (path : IsPath p) (cols : ℕ → ℕ → List ℕ) (row_of 
   -- further marks
   cast_control_col : (i : ℕ) (c : Cast) → slice_get p.casts i ≡ Some c → Member (cols 0 c.control) (cast_column i)
   cast_control_col i c h = net_cols 0 c.control (4 + i) (omega arith) (path.casts i c h).0
-      (more_mark (control_columns p) p.control c.control (4 + i)
+      (control_joint p c.control (4 + i)
       (append_left (cast_columns (λ a. a.control == c.control) 4 p.casts)
       (lift_columns_of (λ l. l.control == c.control) (4 + length p.casts) p.lifts) (4 + i)
       (cast_has (λ a. a.control == c.control) 4 p.casts i c h (same_to c.control c.control refl))))
@@ -151,15 +161,14 @@ module _ (p : Path) (path : IsPath p) (cols : ℕ → ℕ → List ℕ) (row_of 
   lift_control_col : (i : ℕ) (l : Lift) → slice_get p.lifts i ≡ Some l → Member (cols 0 l.control) (lift_column p i)
   lift_control_col i l h = net_cols 0 l.control (lift_column p i) (omega arith)
       (slice_get_within p.control l.control Input (path.lifts i l h).2)
-      (more_mark (control_columns p) p.control l.control (lift_column p i)
+      (control_joint p l.control (lift_column p i)
       (append_right (cast_columns (λ a. a.control == l.control) 4 p.casts)
       (lift_columns_of (λ a. a.control == l.control) (4 + length p.casts) p.lifts) (lift_column p i)
       (lift_has (λ a. a.control == l.control) (4 + length p.casts) p.lifts i l h (same_to l.control l.control refl))))
 
-  slice_more : (b n c : ℕ) → IsSlice p b → n < length p.slice → Member ((slice_columns p).more n) c
-      → Member (cols b n) c
+  slice_more : (b n c : ℕ) → IsSlice p b → n < length p.slice → Member (slice_joints p n) c → Member (cols b n) c
   slice_more zero n c s h m = absurd (omega (arith, s.0))
-  slice_more (suc b) n c s h m = net_cols (suc b) n c s.1 h (more_mark (slice_columns p) p.slice n c m)
+  slice_more (suc b) n c s h m = net_cols (suc b) n c s.1 h (slice_joint p n c m)
 
   slice_own : (b n : ℕ) → suc b ≤ p.width → n < length p.slice → slice_homed p n ≡ true
       → Member (cols (suc b) n) (home (plain_slice p) n)

@@ -1,5 +1,5 @@
 -- A fabric whose marks tie what a placed path ties draws the path's nets.
-use Rattle.std.proofs.Common.{◌≡◌, ℕ, ◌<◌, ◌≤◌, Some, Bool, true, refl, sym}
+use Rattle.std.proofs.Common.{◌≡◌, ℕ, ◌<◌, ◌≤◌, Some, Bool, true, refl, sym, ◌∙◌}
 use Rattle.std.specs.Prelude.{Contains, slice_get}
 use Rattle.mp_base.proofs.Members.{member_contains, contains_member}
 use Rattle.switch_net.specs.declared.network.Network.{Network}
@@ -9,7 +9,8 @@ use Rattle.nor_net.specs.declared.net.Part.TheVariants.{Input}
 use Rattle.nor_net.specs.Elements.{Spot, Joined, Nets}
 use Rattle.drawing.specs.Draws.{Point}
 use Rattle.array_form.specs.Named.{IsNamed}
-use Rattle.array_form.specs.Wires.{Wire, row, to_power, root, hub}
+use Rattle.array_form.specs.Wires.{Wire, beat, row, to_power, root, hub}
+use Rattle.array_form.proofs.Naming.{hub_number}
 use Rattle.array_form.proofs.Drawn.{node, draws, inside, node_ground, node_power, node_phase, net_node}
 use Rattle.slice_form.specs.Along.{DrawsAlong}
 use Rattle.slice_form.specs.Path.{Path, parts, pads, AreNetsOf, IsPath}
@@ -50,6 +51,10 @@ path_draws p stub nets are path stubs rank falls f lawful net_of named power_is 
             (hub Across) rooted_ nets root_of rank roots hubs_ switches_ number network switched power_is;
         phases = node_phase (Wire Across) (InPath p stub) (PathTie p stub) f lawful net_of named root_
             (hub Across) rooted_ nets root_of rank roots hubs_ switches_ number network switched power_is;
+        beats = λ b ph i. node_phase (Wire Across) (InPath p stub) (PathTie p stub) f lawful net_of named root_
+            (hub Across) rooted_ nets root_of rank roots hubs_ switches_ number network switched power_is ph
+            ∙ sym (hub_number (Wire Across) (InPath p stub) (PathTie p stub) f lawful net_of named rooted_.speaks root_
+            (hub Across) rooted_ network.nodes number switched.nodes (beat b ph) i);
         rows = λ s i. sym (net_node (Wire Across) (InPath p stub) (PathTie p stub) f lawful net_of named root_
             (hub Across) rooted_ nets root_of rank roots hubs_ switches_ number network switched power_is
             (row s) s i refl);

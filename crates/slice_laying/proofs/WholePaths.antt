@@ -1,5 +1,5 @@
 -- A data path of nets is one that can be placed; its stubs are pads, and it has few columns where it is narrow.
-use Rattle.std.proofs.Common.{◌≡◌, inl, inr, ℕ, zero, suc, ◌<◌, ◌≤◌, Option, Some, None, true}
+use Rattle.std.proofs.Common.{◌≡◌, inl, inr, ℕ, zero, suc, ◌<◌, ◌≤◌, Option, Some, None, Bool, true, false}
 use Rattle.std.proofs.Common.{cond, List, length, refl, sym, ◌∙◌, ap, subst, arith}
 use Rattle.std.specs.Prelude.{Contains, slice_get, All, ◌==◌, ◌≢◌}
 use Rattle.std.specs.Int.{bit_at}
@@ -8,7 +8,7 @@ use Rattle.std.proofs.lemmas.Bool.{lt-ltb, true≢false}
 use Rattle.std.proofs.lemmas.List.Elements.{All-contains}
 use Rattle.std.proofs.lemmas.List.FromFn.{length-map-range_with_len}
 use Rattle.std.proofs.lemmas.Option.{slice_get_within, slice_get_cases}
-use Rattle.mp_base.proofs.Members.{member_contains, contains_member, member_map}
+use Rattle.mp_base.proofs.Members.{Member, member_append, member_contains, contains_member, member_map}
 use Rattle.mp_base.proofs.Entries.{get_map, contains_from_get}
 use Rattle.nor_net.specs.declared.net.NetId.{NetId}
 use Rattle.nor_net.specs.declared.net.Phase.{Phase}
@@ -22,10 +22,10 @@ use Rattle.path_form.specs.declared.path.Cast as casting
 use Rattle.path_form.specs.declared.path.Lift as lifting
 use Rattle.path_form.specs.declared.path.DataPath.{DataPath}
 use Rattle.path_form.specs.Nets.{lift_element, cast_element, control_part, slice_part}
-use Rattle.path_form.specs.Shape.{is_fed, is_input, times, chain_to, chain_from}
+use Rattle.path_form.specs.Shape.{entries_of, is_fed, is_input, times, chain_to, chain_from}
 use Rattle.slice_form.specs.Joints.{AreJoinedOnce}
-use Rattle.slice_form.specs.Path.{Path, Carry, Cast, Lift, Programmed, parts, IsElement, IsPath}
-use Rattle.slice_form.specs.Whole.{carry_of, cast_of, lift_of, programmed_of, numbers_of, path_of}
+use Rattle.slice_form.specs.Path.{Path, Carry, Cast, Lift, Programmed, parts, west, IsElement, IsPath}
+use Rattle.slice_form.specs.Whole.{carry_of, cast_of, lift_of, pad_entries, programmed_of, numbers_of, path_of}
 use Rattle.array_form.specs.Wires.{place}
 use Rattle.path_form.proofs.Joining.{there}
 use Rattle.slice_laying.specs.Paths.{IsPlaceable, PathsArePlaceable}
@@ -132,6 +132,25 @@ module _ (p : DataPath) (control : IsNet p.control) (slices : IsNet p.slices.net
       subst (λ (g : Programmed). (slice_get p.slices.net g.net ≡ Some Input) × (length g.bits ≡ p.width)) w.2
       (program_input p i w.0 w.1, length-map-range_with_len (λ k. bit_at (w.0).bits k == 1) 0 p.width)
 
+  pad_net : (word : Bool) (net : List Part) → All (λ (id : NetId). id.0 < length net) (entries_of word (p.pads).inputs
+      p.inputs) → All (λ (id : NetId). id.0 < length net) (entries_of word (p.pads).outputs p.outputs)
+      → (n : ℕ) → Contains (numbers_of (pad_entries word p)) n → n < length net
+  pad_net word net ins outs n c =
+      let w = member_map (λ (id : NetId). id.0) (pad_entries word p) n
+      (contains_member (numbers_of (pad_entries word p)) n c) in
+      let low : (ids : List NetId) → All (λ (id : NetId). id.0 < length net) ids → Member ids w.0 → w.0.0 < length net =
+      λ ids all k. All-contains (λ (id : NetId). id.0 < length net) ids w.0 all (member_contains ids w.0 k) in
+      subst (λ z. z < length net) w.2
+      (elim (member_append (entries_of word (p.pads).inputs p.inputs) (entries_of word (p.pads).outputs p.outputs) w.0
+      w.1) [
+        | inl k ↦ low (entries_of word (p.pads).inputs p.inputs) ins k
+        | inr k ↦ low (entries_of word (p.pads).outputs p.outputs) outs k
+      ])
+
+  joined : (b n : ℕ) → Contains (west whole b) n → n < length (parts whole b)
+  joined zero n c = pad_net false p.control p.whole.entries_fit.0.1 p.whole.entries_fit.1.1 n c
+  joined (suc b) n c = pad_net true p.slices.net p.whole.entries_fit.0.2 p.whole.entries_fit.1.2 n c
+
   is_path : IsPath whole
   is_path = record {
     gates = gates;
@@ -142,6 +161,7 @@ module _ (p : DataPath) (control : IsNet p.control) (slices : IsNet p.slices.net
     lifts = lifts;
     chains = chains;
     programs = programs;
+    joined = joined;
   }
 
   -- ---- each input is joined once

@@ -2,13 +2,14 @@
 use Rattle.std.proofs.Common.{◌≡◌, ◌⊎◌, inl, inr, ℕ, zero, suc, ◌+◌, ◌<◌, ◌≤◌, ◌==◌, Some, Bool}
 use Rattle.std.proofs.Common.{true}
 use Rattle.std.proofs.Common.{false, List, [], ◌∷◌, ◌++◌, length, map, refl, sym, ◌∙◌, ap, subst, arith}
-use Rattle.std.specs.Prelude.{◌||◌, ◌^◌, slice_get, if◌then◌else◌}
+use Rattle.std.specs.Prelude.{◌||◌, ◌^◌, All, slice_get, if◌then◌else◌}
 use Rattle.std.specs.List.{list_any}
 use Rattle.std.proofs.lemmas.Bool.{cases_Bool, cases_lt, cases_eq}
 use Rattle.std.proofs.lemmas.List.Elements.{All-contains}
 use Rattle.std.proofs.lemmas.Option.{slice_get_within}
 use Rattle.mp_base.proofs.Lists.{length_map, any_map}
-use Rattle.mp_base.proofs.Members.{Member, member_contains, map_member, append_left, append_right}
+use Rattle.mp_base.proofs.Members.{Member, member_contains, map_member, member_map, member_append, append_left}
+use Rattle.mp_base.proofs.Members.{append_right}
 use Rattle.mp_base.proofs.Numbers.{at_most_times}
 use Rattle.nor_net.specs.declared.net.NetId.{NetId}
 use Rattle.nor_net.specs.declared.net.Part.{Part}
@@ -23,7 +24,7 @@ use Rattle.path_form.specs.Shape.{is_input, times, AreInputs, entries_of, chain_
 use Rattle.path_form.proofs.Joining.{times_append, is_one_input}
 use Rattle.array_form.proofs.Listing.{same_from, same_to}
 use Rattle.slice_form.specs.Path.{Path, Carry, Cast, Lift, Programmed}
-use Rattle.slice_form.specs.Whole.{path_of, carry_of, cast_of, lift_of, programmed_of}
+use Rattle.slice_form.specs.Whole.{path_of, carry_of, cast_of, lift_of, pad_entries, programmed_of}
 
 -- ---- how often a number is among these
 one_here : (n : ℕ) (x : NetId) (xs : List NetId) → (x.0 == n) ≡ true → times n (x ∷ xs) ≡ 1 + times n xs
@@ -130,6 +131,10 @@ unfolding all_times
 all_few zero xs h = omega arith
 all_few (suc n) xs h = let i = all_few n xs h in let o = h n in omega arith
 
+pub few_among : (n : ℕ) (xs : List NetId) → ((x : NetId) → Member xs x → x.0 < n) → ((k : ℕ) → times k xs ≤ 1)
+    → length xs ≤ n
+few_among n xs low once = let l = all_long n xs low in let f = all_few n xs once in omega arith
+
 inputs_few : (net : List Part) (ids : List NetId) → AreInputs net ids → length ids ≤ length net
 inputs_few net ids are =
     let l = all_long (length net) ids (λ x m. slice_get_within net x.0 Input (is_one_input (slice_get net x.0)
@@ -168,6 +173,7 @@ pub record HasEnds (p : Path) : Type 0 where
       × (slice_get p.slice c.to ≡ Some Input)
   pub programs : (i : ℕ) (g : Programmed) → slice_get p.programs i ≡ Some g → slice_get p.slice g.net ≡ Some Input
   pub words : (n : ℕ) → is_word p n ≡ true → slice_get p.slice n ≡ Some Input
+  pub west : (n : ℕ) → Member p.west_words n → n < length p.slice
   -- one of these gives each input its value, and where a pad does so no other does
   pub given : (n : ℕ) → slice_get p.slice n ≡ Some Input
       → (is_word p n ≡ true) ⊎ ((is_end p n ≡ true) ⊎ ((is_cast p n ≡ true) ⊎ (is_program p n ≡ true)))
@@ -297,6 +303,18 @@ module _ (p : DataPath) where
       let g = at_most_times p.width (length net + length p.slices.chains + length p.slices.programs) p.whole.width.0 in
       (omega arith, omega arith)
 
+  west_within : (n : ℕ) → Member (path_of p).west_words n → n < length net
+  west_within n m =
+      let w = member_map (λ (id : NetId). id.0) (pad_entries true p) n m in
+      let low : (ids : List NetId) → All (λ (id : NetId). id.0 < length net) ids → Member ids w.0 → w.0.0 < length net =
+      λ ids all k. All-contains (λ (id : NetId). id.0 < length net) ids w.0 all (member_contains ids w.0 k) in
+      subst (λ z. z < length net) w.2
+      (elim (member_append (entries_of true (p.pads).inputs p.inputs) (entries_of true (p.pads).outputs p.outputs) w.0
+      w.1) [
+        | inl k ↦ low (entries_of true (p.pads).inputs p.inputs) p.whole.entries_fit.0.2 k
+        | inr k ↦ low (entries_of true (p.pads).outputs p.outputs) p.whole.entries_fit.1.2 k
+      ])
+
   pub has_ends : HasEnds (path_of p)
   has_ends = record {
     casts = λ i c h. let w = get_map cast_of p.casts i c h in
@@ -326,6 +344,7 @@ module _ (p : DataPath) where
         (append_right casts_of programs_of w.0.net
         (map_member (λ (g : programmed.Programmed). g.net) p.slices.programs w.0 w.1)))));
     words = word_input;
+    west = west_within;
     given = given_by;
     alone = alone_at;
     few = (

@@ -1,3 +1,4 @@
+mod EachEntry
 pub mod Ends
 mod SlicePins
 mod SliceStubs

@@ -1,5 +1,5 @@
 -- The pins of a slice: each column in which a segment is marked, in every slice the same.
-use Rattle.std.specs.Prelude.{ℕ, List, [], ◌∷◌, ◌++◌, Option, Some, None, flat_map, length, slice_get}
+use Rattle.std.specs.Prelude.{ℕ, List, [], ◌∷◌, ◌++◌, Option, Some, None, flat_map, length, map, slice_get}
 use Rattle.std.specs.List.{range_with_len}
 use Rattle.slice_form.specs.Path.{Path, Carry, Cast, Lift, Programmed}
 use Rattle.slice_form.specs.Slices.{cast_column, lift_column}
@@ -38,6 +38,14 @@ chain_pins p = flat_map (λ i. chain_pin (slice_get p.chains i)) (range_with_len
 abbrev pub program_pins : Path → List Pin
 program_pins p = flat_map (λ i. program_pin (slice_get p.programs i)) (range_with_len 0 (length p.programs))
 
+-- words of pads begin at the west edge
+abbrev pub word_pin : ℕ → Pin
+word_pin n = record { segment = n; at = Column 1 }
+
+abbrev pub word_pins : Path → List Pin
+word_pins p = map word_pin p.west_words
+
+-- but for those of stubs and of words of pads
 abbrev pub slice_pins : Path → List Pin
 slice_pins p =
     net_pins p.slice ++ cast_pins p ++ lift_pins p ++ chain_pins p ++ program_pins p ++ phase_pins (length p.slice) 1

@@ -2,6 +2,7 @@
 //! every slice; and what joins the bands of a path, by number.
 #![tactic(auto)]
 
+pub mod entries;
 pub mod layout;
 pub mod looking;
 mod pins;

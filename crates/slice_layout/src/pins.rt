@@ -3,11 +3,13 @@
 ghost use Rattle.std.specs.Prelude.{◌≡◌, ◌<◌, ◌++◌, IfOk, OnOk, length, slice_get};
 ghost use Rattle.slice_form.specs.Whole.{path_of};
 ghost use Rattle.slice_layout.specs.Pins.{cast_pins, chain_pins, lift_pins, program_pins, slice_pins};
+ghost use Rattle.slice_layout.specs.Pins.{word_pins};
 
+use crate::entries::pad_entries;
 use crate::looking::{
     cast_at, cast_column, casts, chains, lift_at, lift_column, lifts, link_at, program_at, programs,
 };
-use band_lists::pins::{At, Pin, home_pin, push_parts, push_phases};
+use band_lists::pins::{At, Pin, home_pin, push_parts, push_phases, push_west};
 use path_form::DataPath;
 use std::alloc::{AllocError, Global};
 
@@ -72,4 +74,17 @@ pub(crate) fn pins(alloc: Global, path: &DataPath) -> Result<Vec<Pin>, AllocErro
     push_programs(&mut pins, path)?;
     push_phases(&mut pins, path.slices.net.len(), 1)?;
     Ok(pins)
+}
+
+/// Adds the pins of the words of pads, which begin at the west edge.
+pub(crate) fn push_words(
+    alloc: Global,
+    pins: &mut Vec<Pin>,
+    path: &DataPath,
+) -> Result<(), AllocError>
+    ensures { OnOk result (pins.new.items ≡ pins.old.items ++ word_pins (path_of path.now)) }
+{
+    let words = pad_entries(alloc, path, true)?;
+    push_west(pins, words.as_slice())?;
+    Ok(())
 }

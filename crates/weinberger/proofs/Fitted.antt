@@ -4,6 +4,7 @@ use Rattle.std.specs.Prelude.{slice_index}
 use Rattle.mp_base.proofs.Members.{member_contains, map_member}
 use Rattle.fabric.specs.Plan.{Plan, IsFabric, rows_of, with_added}
 use Rattle.fabric.specs.Room.{limit, IsRoomy}
+use Rattle.nor_net.specs.declared.net.NetId.{NetId}
 use Rattle.nor_net.specs.declared.net.Part.{Part}
 use Rattle.nor_net.specs.Shape.{IsNet, IsFed}
 use Rattle.nor_net.proofs.Parts.{fed_parts}
@@ -30,6 +31,8 @@ module _ (f : Plan) (band : Band) (parts : List Part) (fitted : IsFitted f band 
         greatest_above (map (λ t. t.column + 1) band.taps) (t.column + 1)
         (map_member (λ (t : Tap). t.column + 1) band.taps t m) in
         let c = fitted.3.columns in let r = roomy.columns_fit in omega arith);
+    west = all_from (λ (i : NetId). i.0 < length parts) band.west
+        (λ i m. fitted.3.west_in i (member_contains band.west i m));
   }
 
   module _ (tracks : Tracks) (are : AreTracksOf band parts tracks) where

@@ -11,16 +11,20 @@ use Rattle.path_labels.proofs.labels.add_pad.Goals as goal
 
 pub returns-in_ok-push : goal.returns-in_ok-push
 returns-in_ok-push c =
-    signal_added c.args.path.now c.args.fabric.now c.args.pad.now c.args.net c.args.labels.now c.push.new.self
-    c.net_label.result c.if-pad-eq0.true c.in_ok-push.ensures.ok
-    (c.net_label.ensures.named ∙ c.in_ok-name.ensures ∙ c.bytes.ensures) c.net_label.ensures.there
+    signal_added c.args.path.now c.args.fabric.now c.args.pad.now c.args.net c.args.corners.now c.push.new.self
+    c.net_corner.result c.if-pad-eq0.true c.in_ok-push.ensures
+    (record {
+      named = c.net_corner.ensures.named ∙ c.in_ok-name.ensures ∙ c.bytes.ensures;
+      there = c.net_corner.ensures.there;
+      high = c.net_corner.ensures.high;
+    })
 
 pub returns-else-pad-eq0 : goal.returns-else-pad-eq0
 returns-else-pad-eq0 c =
     let p = c.args.path.now in
     let pad = c.args.pad.now in
-    let old = c.args.labels.now in
-    let new = c.add_word.new.labels in
+    let old = c.args.corners.now in
+    let new = c.add_word.new.corners in
     let bits = map (λ k. OfNet (spot (suc k) c.args.net)) (range_with_len 0 p.width) in
     let word : pad.width ≢ 0 = λ e. omega (arith, c.if-pad-eq0.false, e) in
     on_ok_weaker c.add_word.result

@@ -27,18 +27,18 @@ loop-index-preserved c =
     let nets = c.args.nets.now in
     let i = c.loop-index.index in
     let q = c.index-pads-index.result in
-    let now = c.loop-index.labels in
-    let new = c.add_pad.new.labels in
+    let now = c.loop-index.corners in
+    let new = c.add_pad.new.corners in
     let (_, (long, _, _)) = c.requires.entries in
     let t = c.loop-index-test.true in
     let added : Adds p f (pad_points (get_or pads i q) (get_or nets i none)) (bit_labels (get_or pads i q)) now new =
     subst (λ (pad : Pad). Adds p f (pad_points pad (get_or nets i none)) (bit_labels pad) now new)
     c.index-pads-index.is c.in_ok-add_pad.ensures in
-    pad_added p f pads nets c.args.labels.now i q none now new t (omega (arith, long, t)) c.loop-index.invariant added
+    pad_added p f pads nets c.args.corners.now i q none now new t (omega (arith, long, t)) c.loop-index.invariant added
 
 pub returns : goal.returns
 returns c =
     let (_, (long, _, _)) = c.requires.entries in
     let t = c.loop-index-test.false in
-    all_added c.args.path.now c.args.fabric.now c.args.pads.now c.args.nets.now c.args.labels.now c.loop-index.index
-    c.loop-index.labels (omega (arith, t)) (omega (arith, long, t)) c.loop-index.invariant
+    all_added c.args.path.now c.args.fabric.now c.args.pads.now c.args.nets.now c.args.corners.now c.loop-index.index
+    c.loop-index.corners (omega (arith, t)) (omega (arith, long, t)) c.loop-index.invariant

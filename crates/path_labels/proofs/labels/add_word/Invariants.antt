@@ -10,4 +10,4 @@ use Rattle.path_labels.proofs.labels.add_word.Given as goal
 abbrev pub invariant-loop-k : goal.invariant-loop-k
 invariant-loop-k l =
     Adds l.path l.fabric (map (λ k. OfNet (spot (suc k) l.net)) (range_with_len 0 l.k)) (word_labels l.name l.k)
-    l.initial.labels l.labels
+    l.initial.corners l.corners

@@ -9,7 +9,7 @@ use Rattle.band_lists.specs.Pins.{stub_pins}
 use Rattle.band_lists.specs.Spans.{IsPin, columns_at, span_of}
 use Rattle.band_lists.proofs.BandPins.{pins_on, pins_in, span_is}
 use Rattle.band_lists.proofs.Banded.{column_is, columns_long}
-use Rattle.weinberger.specs.Pins.{band_pins}
+use Rattle.weinberger.specs.Pins.{band_pins, west_pins}
 use Rattle.weinberger.proofs.AllPins.{are_narrow, are_pins}
 use Rattle.weinberger.proofs.layout.spans_by.Goals as goal
 
@@ -25,7 +25,7 @@ spans-requires-clause-pins c =
     (subst (All (IsPin columns)) (sym c.requires.pins)
     (pins_in y parts is_net columns (column_is y parts columns stubs c.requires.homes.columns c.requires.stubs)
     (columns_long y parts columns stubs c.requires.homes.columns c.requires.stubs)
-    (band_pins band parts ++ stub_pins stubs)
+    (band_pins band parts ++ stub_pins stubs ++ west_pins (length parts) band.west)
     (are_pins band parts c.requires.band is_net stubs c.requires.stubs columns)))
 
 pub spans-requires-clause-segments : goal.spans-requires-clause-segments
@@ -40,7 +40,7 @@ spans-requires-clause-segments c =
     (subst (All (λ (p : Pin). p.segment < length parts + 3)) (sym c.requires.pins)
     (pins_on y parts is_net columns (column_is y parts columns stubs c.requires.homes.columns c.requires.stubs)
     (columns_long y parts columns stubs c.requires.homes.columns c.requires.stubs)
-    (band_pins band parts ++ stub_pins stubs)
+    (band_pins band parts ++ stub_pins stubs ++ west_pins (length parts) band.west)
     (are_pins band parts c.requires.band is_net stubs c.requires.stubs columns)))
 
 pub returns : goal.returns
@@ -61,6 +61,6 @@ returns c =
     ∙ span_is y parts is_net columns
     (column_is y parts columns stubs c.requires.homes.columns c.requires.stubs)
     (columns_long y parts columns stubs c.requires.homes.columns c.requires.stubs)
-    (band_pins band parts ++ stub_pins stubs)
+    (band_pins band parts ++ stub_pins stubs ++ west_pins (length parts) band.west)
     (are_pins band parts c.requires.band is_net stubs c.requires.stubs columns)
     (are_narrow band parts c.requires.band is_net) k lt)))

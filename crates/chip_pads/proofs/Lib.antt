@@ -1,0 +1,7 @@
+mod Glued
+mod Reached
+mod Heights
+mod Held
+mod Added
+mod Metal
+mod Loose

@@ -1,0 +1,2 @@
+mod Cornered
+mod Framed

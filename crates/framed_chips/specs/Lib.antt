@@ -1,0 +1,2 @@
+pub mod Cornered
+pub mod Framed

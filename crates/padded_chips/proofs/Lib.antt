@@ -1,0 +1,2 @@
+mod Padded
+mod Carried

@@ -1,0 +1,2 @@
+mod Ported
+mod Moved
