@@ -26,7 +26,7 @@ covered_or_not shapes l x y =
       | inr e ↦ inr (λ c. both_ways (has s.0 l) e ((s.1.each l).1 c))
     ]
 
-abbrev depth : Bool → Bool → Bool → Bool → ℕ
+abbrev pub depth : Bool → Bool → Bool → Bool → ℕ
 depth nd np nb ni = if nd && np && not nb then (if ni then 3 else 2) else if nd then 1 else 0
 
 deep_bits : (nd np nb ni : Bool) (k : ℕ) → depth nd np nb ni ≡ k → 1 < k

@@ -81,7 +81,7 @@ module _ (tiles : List Tile) (pairs : List Pair) (n : ℕ) (rects mid next : Lis
             ])
       ]
 
-turned_round : (x y u v : ℤ) → Beside x y u v → Beside u v x y
+pub turned_round : (x y u v : ℤ) → Beside x y u v → Beside u v x y
 turned_round x y u v (inl h) = inl (sym h.0, elim h.1 [ inl e ↦ inr e | inr e ↦ inl e ])
 turned_round x y u v (inr h) = inr (sym h.0, elim h.1 [ inl e ↦ inr e | inr e ↦ inl e ])
 

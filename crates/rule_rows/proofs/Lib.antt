@@ -1,7 +1,9 @@
 mod Alones
 mod Besides
 mod Bounds
+mod Closing
 mod Columns
+mod Crossing
 mod Deep
 mod Leading
 mod Leasts
@@ -12,3 +14,4 @@ mod Planning
 mod Results
 mod Spreading
 mod Stretching
+mod Swapping

@@ -5,3 +5,4 @@ pub mod Channels
 pub mod Gaps
 pub mod Gates
 pub mod Nears
+pub mod Closed

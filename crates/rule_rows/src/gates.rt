@@ -10,6 +10,7 @@ ghost use Rattle.rule_rows.specs.Gates.{IsOpenToward};
 ghost use Rattle.rule_rows.specs.Sides.{way_of};
 
 use crate::channels::first_channel;
+use crate::closed::are_closed;
 use crate::copies::spread;
 use crate::firsts::earlier;
 use crate::side::{Reach, Side};
@@ -24,6 +25,9 @@ pub fn first_open_gate(alloc: Global, shapes: &[Rect]) -> Result<Option<Point>, 
     requires near { All IsNearRect shapes.now }
     ensures { IfOk result (IsFirstOf (IsOpenGate (covered shapes.now))) }
 {
+    if are_closed(alloc, shapes)? {
+        return Ok(None);
+    }
     let right = first_open(alloc, shapes, Side::Right)?;
     let left = first_open(alloc, shapes, Side::Left)?;
     let up = first_open(alloc, shapes, Side::Above)?;

@@ -2,10 +2,13 @@
 #![tactic(auto)]
 
 mod channels;
+mod closed;
 mod copies;
+mod crosses;
 mod firsts;
 mod gates;
 mod leads;
+mod legs;
 mod side;
 mod stretches;
 mod tight;

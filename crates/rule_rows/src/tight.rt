@@ -15,6 +15,7 @@ use crate::firsts::earlier;
 use crate::side::{Reach, Side};
 use lam_geom::{Layer, Point, Rect};
 use mp_base::{List, NoMemory};
+use rule_edges::edges_keep_spacing;
 use std::alloc::Global;
 
 /// The least square by y, then x, that lies in a gap of the layer, along its row or its column, shorter than `size`
@@ -30,6 +31,9 @@ pub fn first_tight(
     requires small { size ≤ 2000 }
     ensures { IfOk result (IsFirstOf (IsTight (covered shapes.now layer) size)) }
 {
+    if edges_keep_spacing(alloc, shapes, layer, size)? {
+        return Ok(None);
+    }
     let across = first_gap(alloc, shapes, layer, size, Side::Right)?;
     let up = first_gap(alloc, shapes, layer, size, Side::Above)?;
     Ok(earlier(across, up))

@@ -16,6 +16,7 @@ use crate::side::{Reach, Side};
 use crate::stretches::turned;
 use lam_geom::{Layer, Point, Rect};
 use mp_base::{List, NoMemory};
+use rule_edges::edges_keep_unrelated;
 use std::alloc::Global;
 
 /// The least square by y, then x, of polysilicon alone from which diffusion alone is nearer than a lambda.
@@ -23,6 +24,9 @@ pub fn first_unrelated(alloc: Global, shapes: &[Rect]) -> Result<Option<Point>, 
     requires near { All IsNearRect shapes.now }
     ensures { IfOk result (IsFirstOf (IsUnrelated (covered shapes.now))) }
 {
+    if edges_keep_unrelated(alloc, shapes)? {
+        return Ok(None);
+    }
     let rows = planned(alloc, shapes)?;
     let across = leading(alloc, rows.as_slice())?;
     let in_rows = first_alone(alloc, across, shapes)?;

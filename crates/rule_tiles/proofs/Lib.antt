@@ -1,4 +1,5 @@
 pub mod Areas
+pub mod Backing
 pub mod Bare
 pub mod Growing
 pub mod Narrow

@@ -1,3 +1,4 @@
 pub mod First
 pub mod Areas
 pub mod Cuts
+pub mod Backed

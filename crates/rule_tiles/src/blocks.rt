@@ -3,10 +3,12 @@
 ghost use Rattle.std.specs.Prelude.{◌≡◌, ◌↔◌, ◌⊎◌, All, IfOk, IsSome, false, length, map, true};
 ghost use Rattle.lam_geom.specs.Moves.{IsNearRect};
 ghost use Rattle.lam_geom.specs.Squares.{covered};
+ghost use Rattle.rule_tiles.specs.Backed.{AreUnset};
 ghost use Rattle.rule_tiles.specs.Cuts.{IsNearTile, IsNearCorner};
 ghost use Rattle.rule_tiles.specs.Cuts.{corner_of, block_of, AreFlags, AreGaps, IsBareAt, IsJoined};
 
 use crate::area::{add, difference, of_layer};
+use crate::backed::are_backed;
 use lam_geom::{Layer, Point, Rect};
 use mask_runs::Mask;
 use mp_base::{List, NoMemory};
@@ -47,6 +49,9 @@ pub(crate) fn bare_flags(
     requires long { length odd.now ≡ length corners.now }
     ensures { IfOk result (AreFlags (IsBareAt (covered shapes.now) corners.now odd.now) (length corners.now)) }
 {
+    if are_backed(alloc, shapes, corners, odd)? {
+        return unset(alloc, corners.len());
+    }
     let metal = gaps(alloc, shapes, Layer::NM, corners)?;
     let polysilicon = gaps(alloc, shapes, Layer::NP, corners)?;
     let diffusion = gaps(alloc, shapes, Layer::ND, corners)?;
@@ -57,6 +62,13 @@ pub(crate) fn bare_flags(
         polysilicon.as_slice(),
         diffusion.as_slice(),
     )
+}
+
+fn unset(alloc: Global, count: usize) -> Result<List<bool>, NoMemory>
+    ensures { IfOk result (AreUnset count) }
+{
+    let flags = vec![in alloc; false; count]?;
+    Ok(List::from_vec(flags))
 }
 
 fn joined(

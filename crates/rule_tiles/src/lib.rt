@@ -2,6 +2,7 @@
 #![tactic(auto)]
 
 mod area;
+mod backed;
 mod blocks;
 mod cuts;
 mod width;

@@ -3,7 +3,9 @@ use Rattle.std.proofs.Common.{sym, ◌∙◌, ap, length}
 use Rattle.std.proofs.lemmas.Result.{IfOk-weaker}
 use Rattle.lam_geom.specs.declared.layer.Layer.TheVariants.{ND, NP, NM}
 use Rattle.lam_geom.specs.Squares.{covered}
+use Rattle.rule_tiles.specs.Backed.{AreUnset}
 use Rattle.rule_tiles.specs.Cuts.{AreFlags, IsJoined, IsBareAt}
+use Rattle.rule_tiles.proofs.Backing.{unset_flags}
 use Rattle.rule_tiles.proofs.Gaps.{as_many_gaps, bare_flags_are}
 use Rattle.rule_tiles.proofs.blocks.bare_flags.Goals as goal
 
@@ -36,3 +38,12 @@ returns c =
     (λ flags are. bare_flags_are covers corners odd c.in_ok-metal.metal c.in_ok-polysilicon.polysilicon
     c.in_ok-diffusion.diffusion (length odd) flags c.requires.long c.in_ok-metal.ensures c.in_ok-polysilicon.ensures
     c.in_ok-diffusion.ensures are) told
+
+pub returns-then-branch : goal.returns-then-branch
+returns-then-branch c =
+    let shapes = c.args.shapes.now in
+    let corners = c.args.corners.now in
+    let odd = c.args.odd.now in
+    let backed = c.in_ok-are_backed.ensures c.if-branch.true in
+    IfOk-weaker c.unset.result (AreUnset (length corners)) (AreFlags (IsBareAt (covered shapes) corners odd) (length corners))
+    (λ flags unset. unset_flags shapes corners odd flags backed unset) c.unset.ensures

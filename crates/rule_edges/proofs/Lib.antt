@@ -1,0 +1,5 @@
+mod Clearing
+mod Having
+mod Facings
+mod Spaces
+mod Partings
