@@ -5,3 +5,4 @@ pub mod Known
 pub mod Endings
 pub mod Existence
 pub mod FirstFault
+mod Others

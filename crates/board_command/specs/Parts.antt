@@ -1,9 +1,10 @@
 -- The parts that are lent, and how they are left.
-use Rattle.std.specs.Prelude.{◌≡◌, ℕ, List, take}
+use Rattle.std.specs.Prelude.{◌≡◌, ◌≢◌, ◌⊎◌, ℕ, List, All, slice_get, take}
 use Rattle.mp_base.specs.declared.pad.Pads.{Pads}
 use Rattle.mp_base.specs.declared.value.Trit.{Trit}
 use Rattle.mp_program.specs.declared.program.Program.{Program}
 use Rattle.mp_source.specs.Source.{IsSource}
+use Rattle.board.specs.declared.link.Link.{Link}
 use Rattle.board.specs.declared.plan.Plan.{Plan}
 use Rattle.board.specs.Face.{Face}
 use Rattle.board.specs.Loop.{Wired, Exchange, faces_with}
@@ -58,3 +59,19 @@ pub record AreTakenOut (names : List (List ℕ)) (clocks : ℕ) (words : List (L
   pub plan : Plan
   pub is_plan : IsPlan (setting_of names clocks pads) words plan
   pub others : left ≡ left_of plan.swaps names
+
+-- at each place of a list of parts to which none of these links goes, another list has the same part, as it is there
+abbrev pub AreKeptBut : List Link → List Face → List Face → Type 0
+AreKeptBut links faces left =
+    (place : ℕ) → All (λ (l : Link). l.part ≢ place) links → slice_get left place ≡ slice_get faces place
+
+-- The parts that no link of the words names, and that no swap puts in, are as they were.
+pub record AreOthersKept (lent : Lent) (clocks : ℕ) (words : List (List ℕ)) (left : List Face) : Type 0 where
+  pub pads : Pads
+  pub plan : Plan
+  pub is_plan : IsPlan (setting_of lent.names clocks pads) words plan
+  pub kept : AreKeptBut (links_left plan) (left_of plan.swaps lent.faces) left
+
+-- whatever is told: all parts are as they were, or the words are links and swaps, and those that these don't name are
+abbrev pub KeepsOthers : Lent → ℕ → List (List ℕ) → List Face → Type 0
+KeepsOthers lent clocks words left = (left ≡ lent.faces) ⊎ AreOthersKept lent clocks words left

@@ -8,7 +8,7 @@ ghost use Rattle.outcome.specs.World.{world_of, HasCauses, Leaves};
 ghost use Rattle.outcome.specs.Halt.{Ends, IsQuiet, status_of};
 ghost use Rattle.source_files.specs.Faults.{SourceFault};
 ghost use Rattle.board.specs.Face.{Face};
-ghost use Rattle.board_command.specs.Parts.{Lent};
+ghost use Rattle.board_command.specs.Parts.{KeepsOthers, Lent};
 ghost use Rattle.board_command.specs.Shown.{Boards};
 ghost use Rattle.board_command.specs.Work.{work, Moves, Rests};
 
@@ -56,6 +56,16 @@ fn show<D: Depot, O: Sink>(
     ensures rests { let world = world_of D.held D.read_faults D.write_faults O.held O.faults in
         Rests (λ p. string_bytes p.name) clocks (map string_bytes words.now) parts.old.items parts.new.items result
         (world depot.old out.old) (world depot.new out.new) }
+    ensures others { let faces = map (λ p. let f : Face = record {
+      state = (⟦<dyn Part as Part>⟧ p.part.vtable).state p.part.value;
+      drives = (⟦<dyn Part as Part>⟧ p.part.vtable).driven_in;
+      sees = (⟦<dyn Part as Part>⟧ p.part.vtable).after_seeing;
+    } in f) in
+        let lent : Lent = record {
+          names = map (λ p. string_bytes p.name) parts.old.items;
+          faces = faces parts.old.items;
+        } in
+        KeepsOthers lent clocks (map string_bytes words.now) (faces parts.new.items) }
 {
     let plan = judge_plan(alloc, words, parts, checked, clocks)?;
     plans_run();
@@ -126,6 +136,18 @@ pub fn board<D: Depot, O: Sink>(
     ensures rests { let world = world_of D.held D.read_faults D.write_faults O.held O.faults in
         Rests (λ p. string_bytes p.name) clocks (map string_bytes words.now) parts.old.items parts.new.items result
         (world depot.old out.old) (world depot.new out.new) }
+
+    // Whatever is told, the parts that no link or swap names are as they were.
+    ensures others { let faces = map (λ p. let f : Face = record {
+      state = (⟦<dyn Part as Part>⟧ p.part.vtable).state p.part.value;
+      drives = (⟦<dyn Part as Part>⟧ p.part.vtable).driven_in;
+      sees = (⟦<dyn Part as Part>⟧ p.part.vtable).after_seeing;
+    } in f) in
+        let lent : Lent = record {
+          names = map (λ p. string_bytes p.name) parts.old.items;
+          faces = faces parts.old.items;
+        } in
+        KeepsOthers lent clocks (map string_bytes words.now) (faces parts.new.items) }
 {
     let checked = read_source(alloc, depot, source)?;
     let result = show(alloc, depot, out, parts, &checked, cif, clocks, words);

@@ -1,6 +1,6 @@
 //! The chip's file, and the run of its circuit.
 
-ghost use Rattle.std.specs.Prelude.{◌≡◌, ◌≢◌, ◌<◌, ◌≤◌, [], All, AllPairs, Some, length, map, string_bytes};
+ghost use Rattle.std.specs.Prelude.{◌≡◌, ◌≢◌, ◌⊎◌, ◌<◌, ◌≤◌, [], All, AllPairs, Some, length, map, string_bytes};
 ghost use Rattle.std.specs.Vec.{vec_capacity};
 ghost use Rattle.outside.specs.Outside.{HasCause};
 ghost use Rattle.switch_net.specs.Breaks.{HasPads};
@@ -12,7 +12,7 @@ ghost use Rattle.board.specs.Face.{Face};
 ghost use Rattle.board_run.specs.Boarded.{PrintsBoardWith};
 ghost use Rattle.board_run.specs.Left.{exchange_of, left_of};
 ghost use Rattle.board_run.specs.Swaps.{AreTimely};
-ghost use Rattle.board_command.specs.Parts.{AreLeft};
+ghost use Rattle.board_command.specs.Parts.{AreKeptBut, AreLeft};
 ghost use Rattle.board_command.specs.Work.{Plays, WhereBegun};
 
 use board::{NamedPart, Part, Swap};
@@ -103,6 +103,13 @@ pub(crate) fn play<'a, D: Depot, O: Sink>(
         WhereBegun result (world depot.old out.old) (world depot.new out.new)
         (map (λ p. string_bytes p.name) parts.new.items
         ≡ left_of swaps.now (map (λ p. string_bytes p.name) parts.old.items)) (parts.new.items ≡ parts.old.items) }
+    ensures others { let faces = map (λ p. let f : Face = record {
+      state = (⟦<dyn Part as Part>⟧ p.part.vtable).state p.part.value;
+      drives = (⟦<dyn Part as Part>⟧ p.part.vtable).driven_in;
+      sees = (⟦<dyn Part as Part>⟧ p.part.vtable).after_seeing;
+    } in f) in
+        (faces parts.new.items ≡ faces parts.old.items) ⊎ AreKeptBut circuit.entry.wired.links
+        (left_of swaps.now (faces parts.old.items)) (faces parts.new.items) }
 {
     swapped_boards_run();
     match store(depot, cif, chip) {

@@ -1,7 +1,7 @@
 //! The system's files.
 
 use outside::{Depot, Failed};
-use std::io;
+use std::{fs, io};
 use system_outside::FileDepot;
 
 /// The system's files.
@@ -55,7 +55,29 @@ fn show_faults(rt: &HostRuntime) -> io::Result<()> {
     println!(rt; "a file is made in no folder: {made:?}; one grows that isn't there: {grown:?}")
 }
 
+// A file is gone between two calls: it doesn't grow, isn't read, and isn't there again.
+fn show_gone(rt: &HostRuntime) -> io::Result<()> {
+    let mut depot = FileDepot::new(rt);
+    let made = depot.create("made");
+    let three = depot.append("made", b"abc");
+    fs::remove_file(rt, "made")?;
+    let two = depot.append("made", b"de");
+    let count = read(&mut depot, 0);
+    println!(rt;
+        "a file is made: {made:?}, and grows: {three:?}. When it is gone: {two:?}, and read: {count:?}"
+    )
+}
+
+fn show_full(rt: &HostRuntime) -> io::Result<()> {
+    let mut depot = FileDepot::new(rt);
+    let made = depot.create("/dev/full");
+    let grown = depot.append("/dev/full", b"abc");
+    println!(rt; "a full device: {made:?}, {grown:?}")
+}
+
 pub(crate) fn show(rt: &HostRuntime) -> io::Result<()> {
     show_files(rt)?;
-    show_faults(rt)
+    show_faults(rt)?;
+    show_gone(rt)?;
+    show_full(rt)
 }

@@ -1,6 +1,7 @@
-//! Outputs over writers that are soon full.
+//! Outputs over writers that are soon full, or always.
 
 use outside::{Sink, write_all};
+use std::fs::OpenOptions;
 use std::io;
 use system_outside::OutSink;
 
@@ -40,7 +41,17 @@ fn show_long(rt: &HostRuntime) -> io::Result<()> {
     println!(rt; "it holds the first: {whole}, and then the byte {end}")
 }
 
+// A device that takes nothing.
+fn show_device(rt: &HostRuntime) -> io::Result<()> {
+    let mut out = OutSink::new(OpenOptions::new().write(true).open(rt, "/dev/full")?);
+    let written = write_all(&mut out, b"abc");
+    let flushed = out.flush();
+    let long = write_all(&mut out, &[b'x'; 5000]);
+    println!(rt; "a full device: {written:?}, flushed: {flushed:?}, and 5000 bytes: {long:?}")
+}
+
 pub(crate) fn show(rt: &HostRuntime) -> io::Result<()> {
     show_small(rt)?;
-    show_long(rt)
+    show_long(rt)?;
+    show_device(rt)
 }

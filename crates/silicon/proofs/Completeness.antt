@@ -8,7 +8,7 @@ use Rattle.board.specs.Face.{Face}
 use Rattle.board_command.specs.Parts.{Lent}
 use Rattle.silicon.specs.Faults.{IsFirstFault, IsStrayFor}
 use Rattle.silicon.specs.Run.{Did}
-use Rattle.silicon.specs.Complete.{IsRun, AnyRose, AnyGreater, status_by}
+use Rattle.silicon.specs.Complete.{IsRun, AnyRose, AnyGreater, CountsNothing, status_by}
 use Rattle.outcome.specs.declared.status.Status.{Status}
 use Rattle.outcome.specs.declared.status.Status.TheVariants.{Done, Refused, Usage, ReadFault, WriteFault, NoMemory}
 
@@ -114,3 +114,13 @@ greater lent left words ReadFault before after run more = inl refl
 greater lent left words WriteFault before after run more = inr refl
 greater lent left words NoMemory before after run more =
     absurd (same_counts _ _ _ _ _ _ run.causes.0 run.causes.1 run.causes.2 more)
+
+-- a count that stands at 0 didn't rise
+stays : (before now : ℕ) → before ≡ 0 → now ≡ 0 → Rose before now → ⊥
+stays before now p q (inl more) = omega (arith, p, q, more)
+stays before now p q (inr last) = omega (arith, q, last)
+
+pub none_rose : (before after : World) → CountsNothing before → CountsNothing after → AnyRose before after → ⊥
+none_rose before after p q (inl rose) = stays _ _ p.0 q.0 rose
+none_rose before after p q (inr (inl rose)) = stays _ _ p.1 q.1 rose
+none_rose before after p q (inr (inr rose)) = stays _ _ p.2 q.2 rose

@@ -5,3 +5,4 @@ pub mod Silence
 pub mod Completeness
 pub mod Moves
 pub mod Making
+pub mod Others

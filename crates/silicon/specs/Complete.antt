@@ -1,5 +1,5 @@
 -- What the clauses of a run leave no choice of.
-use Rattle.std.specs.Prelude.{◌⊎◌, ◌<◌, List, Option, Some, None}
+use Rattle.std.specs.Prelude.{◌≡◌, ◌⊎◌, ◌<◌, List, Option, Some, None}
 use Rattle.outside.specs.Outside.{Rose}
 use Rattle.command_line.specs.Command.{Command}
 use Rattle.outcome.specs.Order.{Fault, Stray, Breaks}
@@ -27,6 +27,10 @@ AnyRose before after =
 abbrev pub AnyGreater : World → World → Type 0
 AnyGreater before after =
     (before.reads < after.reads) ⊎ (before.writes < after.writes) ⊎ (before.prints < after.prints)
+
+-- no fault is counted
+abbrev pub CountsNothing : World → Type 0
+CountsNothing world = (world.reads ≡ 0) × (world.writes ≡ 0) × (world.prints ≡ 0)
 
 -- the status of a command on files with this first fault
 abbrev pub status_by : Option Fault → Status

@@ -9,6 +9,7 @@ use Rattle.outcome.specs.declared.status.Status.{Status}
 use Rattle.outcome.specs.declared.status.Status.TheVariants.{Done, WriteFault}
 use Rattle.board.specs.Face.{Face}
 use Rattle.outcome.specs.declared.halt.Halt.{Halt}
+use Rattle.board_command.specs.Parts as parts
 use Rattle.board_command.specs.Parts.{Lent, AreMoved, AreTakenOut}
 use Rattle.board_command.specs.Work as boards
 use Rattle.silicon.specs.Faults.{IsFirstFault}
@@ -45,3 +46,8 @@ abbrev pub Rests : {P T : Type 0} → (P → List ℕ) → Command → Result T 
 Rests name (Board source cif clocks words) result old new before after =
     boards.Rests name clocks words before after result old new
 Rests name command result old new before after = after ≡ before
+
+-- whatever is told, a board leaves the parts that its words don't name as they were, and every other command leaves all
+abbrev pub KeepsOthers : Lent → List Face → Option Command → Type 0
+KeepsOthers lent left (Some (Board source cif clocks words)) = parts.KeepsOthers lent clocks words left
+KeepsOthers lent left words = left ≡ lent.faces

@@ -12,7 +12,7 @@ ghost use Rattle.board.specs.Face.{Face};
 ghost use Rattle.board_command.specs.Parts.{Lent};
 ghost use Rattle.board_command.specs.Played.{PlaysFollow};
 ghost use Rattle.silicon.specs.Faults.{IsFirstFault};
-ghost use Rattle.silicon.specs.Complete.{IsRun, AnyRose, AnyGreater, status_by};
+ghost use Rattle.silicon.specs.Complete.{IsRun, AnyRose, AnyGreater, CountsNothing, status_by};
 ghost use Rattle.silicon.specs.ReadBack.{CompiledFilesAreRead};
 
 use board_command::laws::{a_link_fault, one_link_fault, plays_follow};
@@ -50,7 +50,8 @@ pub fn a_first_fault()
 /// command on files that are told has a verdict on them, and ends as this says, or wants memory: it is done where no
 /// rule is broken and each file is held, it refuses where a rule is broken first, and it tells a read fault where a
 /// file isn't held. On all files there is one verdict, and no other (`a_first_fault`, `one_first_fault`), so no files
-/// are left out. Words in no form end with the usage line, or want memory. Over files that aren't told no fault is
+/// are left out. Over files and an output whose counts are 0,
+/// as those of doubles that never fail, no count rises (`still`, `quiet`). Words in no form end with the usage line, or want memory. Over files that aren't told no fault is
 /// answered, and where a count is greater a fault is.
 pub fn completeness()
     ensures owed { (lent : Lent) (left : List Face) (command : Command) (status : Status) (before after : World)
@@ -58,6 +59,12 @@ pub fn completeness()
         → before.files ≡ Some old → after.files ≡ Some new → ¬ AnyRose before after
         → (fault : Option Fault) × IsFirstFault lent command old fault
         × ((status ≡ status_by fault) ⊎ (status ≡ NoMemory)) }
+    ensures quiet { (lent : Lent) (left : List Face) (command : Command) (status : Status) (before after : World)
+        (old new : Files) → IsRun lent left (Some command) status before after
+        → before.files ≡ Some old → after.files ≡ Some new → CountsNothing before → CountsNothing after
+        → (fault : Option Fault) × IsFirstFault lent command old fault
+        × ((status ≡ status_by fault) ⊎ (status ≡ NoMemory)) }
+    ensures still { (before after : World) → CountsNothing before → CountsNothing after → ¬ AnyRose before after }
     ensures usage { (lent : Lent) (left : List Face) (status : Status) (before after : World)
         → IsRun lent left None status before after → ¬ AnyRose before after
         → (status ≡ Usage) ⊎ (status ≡ NoMemory) }

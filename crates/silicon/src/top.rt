@@ -7,7 +7,7 @@ ghost use Rattle.outcome.specs.Halt.{IsQuiet, status_of};
 ghost use Rattle.board.specs.Face.{Face};
 ghost use Rattle.board_command.specs.Parts.{Lent};
 ghost use Rattle.silicon.specs.Faults.{target_of, target_for, IsStrayFor};
-ghost use Rattle.silicon.specs.Parts.{KeepsParts, Rests};
+ghost use Rattle.silicon.specs.Parts.{KeepsOthers, KeepsParts, Rests};
 ghost use Rattle.silicon.specs.Run.{IsForWords, Did, Ending, EndsMade, TellsUsage};
 
 use board::{NamedPart, Part};
@@ -64,6 +64,16 @@ fn perform<D: Depot, O: Sink>(
         Rests (λ p. string_bytes p.name) (seen command.entry) result (world depot.old out.old) (world depot.new out.new)
         parts.old.items parts.new.items }
     ensures made { EndsMade (Some (seen command.entry)) (status_of result) }
+    ensures others { let faces = map (λ p. let f : Face = record {
+      state = (⟦<dyn Part as Part>⟧ p.part.vtable).state p.part.value;
+      drives = (⟦<dyn Part as Part>⟧ p.part.vtable).driven_in;
+      sees = (⟦<dyn Part as Part>⟧ p.part.vtable).after_seeing;
+    } in f) in
+        let lent : Lent = record {
+          names = map (λ p. string_bytes p.name) parts.old.items;
+          faces = faces parts.old.items;
+        } in
+        KeepsOthers lent (faces parts.new.items) (Some (seen command.entry)) }
 {
     match command {
         Command::Trace(source, stimulus) => trace(alloc, depot, out, source, stimulus),
@@ -122,6 +132,16 @@ fn run_command<D: Depot, O: Sink>(
         KeepsParts (λ p. string_bytes p.name) (Some (seen command.entry)) result (world depot.old out.old)
         (world depot.new out.new) parts.old.items parts.new.items }
     ensures made { EndsMade (Some (seen command.entry)) result }
+    ensures others { let faces = map (λ p. let f : Face = record {
+      state = (⟦<dyn Part as Part>⟧ p.part.vtable).state p.part.value;
+      drives = (⟦<dyn Part as Part>⟧ p.part.vtable).driven_in;
+      sees = (⟦<dyn Part as Part>⟧ p.part.vtable).after_seeing;
+    } in f) in
+        let lent : Lent = record {
+          names = map (λ p. string_bytes p.name) parts.old.items;
+          faces = faces parts.old.items;
+        } in
+        KeepsOthers lent (faces parts.new.items) (Some (seen command.entry)) }
 {
     match perform(alloc, depot, out, parts, command) {
         Ok(()) => Status::Done,
@@ -192,6 +212,18 @@ pub fn run<D: Depot, O: Sink>(
 
     // What is made of a number is never refused, and nothing is read for it.
     ensures made { EndsMade (command_of words.now.items) result }
+
+    // Whatever is told, a board leaves the parts that its words don't name, and every other command leaves all.
+    ensures others { let faces = map (λ p. let f : Face = record {
+      state = (⟦<dyn Part as Part>⟧ p.part.vtable).state p.part.value;
+      drives = (⟦<dyn Part as Part>⟧ p.part.vtable).driven_in;
+      sees = (⟦<dyn Part as Part>⟧ p.part.vtable).after_seeing;
+    } in f) in
+        let lent : Lent = record {
+          names = map (λ p. string_bytes p.name) parts.old.items;
+          faces = faces parts.old.items;
+        } in
+        KeepsOthers lent (faces parts.new.items) (command_of words.now.items) }
 {
     match command_of(alloc, words) {
         Ok(Some(command)) => run_command(alloc, depot, out, parts, command),

@@ -1,4 +1,4 @@
-use Rattle.std.proofs.Common.{ℕ, List, Option, map, refl}
+use Rattle.std.proofs.Common.{ℕ, List, Option, map, refl, inl}
 use Rattle.std.specs.Prelude.{string_bytes}
 use Rattle.outside.specs.Outside.{Files, bytes_of}
 use Rattle.outcome.specs.Order.{Fault, OfRule}
@@ -101,3 +101,9 @@ pub returns-clause-rests : goal.returns-clause-rests
 returns-clause-rests g c =
     begun_since _ _ c.show-result.result _ _ _
     (record { writes = c.in_ok-checked.ensures.writes; prints = refl; text = refl }) c.show-result.ensures.rests
+
+pub returns-in_err-checked-clause-others : goal.returns-in_err-checked-clause-others
+returns-in_err-checked-clause-others g c = inl refl
+
+pub returns-clause-others : goal.returns-clause-others
+returns-clause-others g c = c.show-result.ensures.others

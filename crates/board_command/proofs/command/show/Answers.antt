@@ -1,4 +1,4 @@
-use Rattle.std.proofs.Common.{◌<◌, ℕ, List, [], None, Option, length, map, refl, sym, ap, subst}
+use Rattle.std.proofs.Common.{◌<◌, ℕ, List, [], None, Option, length, map, refl, sym, ap, subst, inl}
 use Rattle.std.specs.Prelude.{◌≢◌, ◌≤◌, All, AllPairs, string_bytes}
 use Rattle.std.specs.Vec.{vec_capacity}
 use Rattle.outside.specs.Outside.{Files, bytes_of}
@@ -27,6 +27,7 @@ use Rattle.board_command.proofs.Judging.{plan_end, plan_fits}
 use Rattle.board_command.proofs.Leaving.{fresh_within}
 use Rattle.board_command.proofs.Known.{Known, Gives, plays_on}
 use Rattle.board_command.proofs.Endings.{begun_map, plays_halted, refused_unwritten, rests, wanting_unwritten}
+use Rattle.board_command.proofs.Others.{others_planned}
 use Rattle.board_command.proofs.command.show.Goals as goal
 
 pub chip_on_board-requires-clause-few : goal.chip_on_board-requires-clause-few
@@ -247,3 +248,27 @@ returns-clause-rests g c =
       is_plan = told.is_plan;
       others = out;
     }) (λ same. same) (rw c.as_slice-swaps.ensures at c.play.ensures.rests)
+
+pub returns-in_err-plan-clause-others : goal.returns-in_err-plan-clause-others
+returns-in_err-plan-clause-others g c = inl refl
+
+pub returns-in_err-chip-clause-others : goal.returns-in_err-chip-clause-others
+returns-in_err-chip-clause-others g c = inl refl
+
+pub returns-clause-others : goal.returns-clause-others
+returns-clause-others g c =
+    let old = c.args.parts.now.items in
+    let lent : Lent = record {
+      names = map (λ p. string_bytes p.name) old;
+      faces = map (λ p. let f : Face = record {
+        state = (g.dyn-1.0.entry p.part.vtable).1.state p.part.value;
+        drives = (g.dyn-1.0.entry p.part.vtable).1.driven_in;
+        sees = (g.dyn-1.0.entry p.part.vtable).1.after_seeing;
+      } in f) old;
+    } in
+    let words : List (List ℕ) = map string_bytes c.args.words.now in
+    let plan = c.in_ok-plan.plan in
+    let told : IsPlanFor lent.names c.args.clocks words c.args.checked.now.program c.args.checked.now.pads plan =
+    rw c.deref.ensures.value at c.in_ok-plan.ensures.planned in
+    others_planned lent words c.args.clocks c.args.checked.now.pads plan _ _ told.is_plan
+    (ap (λ (w : Wired). w.links) c.in_ok-chip.ensures.wired) (rw c.as_slice-swaps.ensures at c.play.ensures.others)

@@ -1,4 +1,4 @@
-use Rattle.std.proofs.Common.{List, ℕ, Err, inr, map, refl}
+use Rattle.std.proofs.Common.{List, ℕ, Err, inl, inr, map, refl}
 use Rattle.outcome.specs.declared.halt.Halt.TheVariants.{WriteFault}
 use Rattle.outcome.proofs.Causes.{store_failed, print_failed}
 use Rattle.outcome.proofs.Silence.{quiet_cut}
@@ -7,6 +7,7 @@ use Rattle.board.specs.Loop.{Exchange}
 use Rattle.board_run.specs.Left.{exchange_of, left_of}
 use Rattle.board_command.proofs.Given.{stored_in_part, printed_in_part, printed_whole}
 use Rattle.board_command.proofs.Endings.{begun_cut}
+use Rattle.board_command.proofs.Others.{others_kept}
 use Rattle.board_command.proofs.playing.play.Goals as goal
 
 pub returns-in-Err-clause-content : goal.returns-in-Err-clause-content
@@ -111,3 +112,32 @@ returns-in_err-run_left-in-Ok-clause-rests g c =
 
 pub returns-in_ok-run_left-in-Ok-clause-rests : goal.returns-in_ok-run_left-in-Ok-clause-rests
 returns-in_ok-run_left-in-Ok-clause-rests g c = c.in_ok-run_left-in-Ok.ensures.names
+
+pub returns-in-Err-clause-others : goal.returns-in-Err-clause-others
+returns-in-Err-clause-others g c = inl refl
+
+pub returns-in_err-run_left-in-Ok-clause-others : goal.returns-in_err-run_left-in-Ok-clause-others
+returns-in_err-run_left-in-Ok-clause-others g c =
+    let faces : List Face = map (λ p. let f : Face = record {
+      state = (g.dyn-1.0.entry p.part.vtable).1.state p.part.value;
+      drives = (g.dyn-1.0.entry p.part.vtable).1.driven_in;
+      sees = (g.dyn-1.0.entry p.part.vtable).1.after_seeing;
+    } in f) c.args.parts.now.items in
+    let swapped : List Exchange = map (exchange_of faces) c.args.swaps.now in
+    let others : List Face = left_of c.args.swaps.now faces in
+    let circuit = c.args.circuit in
+    inr (others_kept swapped circuit.network circuit.wired c.args.clocks others _ _ _ _
+    c.in_err-run_left-in-Ok.ensures.printed c.requires.timely.linked)
+
+pub returns-in_ok-run_left-in-Ok-clause-others : goal.returns-in_ok-run_left-in-Ok-clause-others
+returns-in_ok-run_left-in-Ok-clause-others g c =
+    let faces : List Face = map (λ p. let f : Face = record {
+      state = (g.dyn-1.0.entry p.part.vtable).1.state p.part.value;
+      drives = (g.dyn-1.0.entry p.part.vtable).1.driven_in;
+      sees = (g.dyn-1.0.entry p.part.vtable).1.after_seeing;
+    } in f) c.args.parts.now.items in
+    let swapped : List Exchange = map (exchange_of faces) c.args.swaps.now in
+    let others : List Face = left_of c.args.swaps.now faces in
+    let circuit = c.args.circuit in
+    inr (others_kept swapped circuit.network circuit.wired c.args.clocks others _ _ _ _
+    c.in_ok-run_left-in-Ok.ensures.printed c.requires.timely.linked)

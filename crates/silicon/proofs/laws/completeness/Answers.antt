@@ -20,3 +20,15 @@ returns-clause-untold c = λ lent left words status before after run untold stil
 
 pub returns-clause-faults : goal.returns-clause-faults
 returns-clause-faults c = all.greater
+
+pub returns-clause-quiet : goal.returns-clause-quiet
+returns-clause-quiet c = λ lent left command status before after old new run told kept none no_more.
+    let (fault, first) = c.a_first_fault.ensures lent command old in (
+      fault,
+      first,
+      all.owed c.one_first_fault.ensures lent left command before after old new fault first
+          (all.none_rose before after none no_more) status run told kept,
+    )
+
+pub returns-clause-still : goal.returns-clause-still
+returns-clause-still c = all.none_rose

@@ -6,6 +6,7 @@ use Rattle.board.specs.Face.{Face}
 use Rattle.board_command.specs.Parts.{Lent}
 use Rattle.silicon.specs.Run.{EndsMade}
 use Rattle.silicon.proofs.Making.{ends_made}
+use Rattle.silicon.proofs.Others.{others_same, others_words}
 use Rattle.silicon.proofs.Moves.{leaves_seen, leaves_still, rests_seen}
 use Rattle.silicon.proofs.top.perform.Goals as goal
 
@@ -138,3 +139,114 @@ pub returns-in-Make-clause-made : goal.returns-in-Make-clause-made
 returns-in-Make-clause-made g c =
     subst (λ k. EndsMade (Some k) (status_of c.make.result)) (sym (ap seen c.in-Make.is))
     (ends_made c.in-Make.number c.in-Make.cif.now c.make.result c.make.ensures.unrefused)
+
+pub returns-in-Trace-clause-others : goal.returns-in-Trace-clause-others
+returns-in-Trace-clause-others g c =
+    let lent : Lent = record {
+      names = map (λ p. string_bytes p.name) c.args.parts.now.items;
+      faces = map (λ p. let f : Face = record {
+        state = (g.dyn-1.0.entry p.part.vtable).1.state p.part.value;
+        drives = (g.dyn-1.0.entry p.part.vtable).1.driven_in;
+        sees = (g.dyn-1.0.entry p.part.vtable).1.after_seeing;
+      } in f) c.args.parts.now.items;
+    } in
+    others_same lent (Some (seen c.args.command))
+
+pub returns-in-Compile-clause-others : goal.returns-in-Compile-clause-others
+returns-in-Compile-clause-others g c =
+    let lent : Lent = record {
+      names = map (λ p. string_bytes p.name) c.args.parts.now.items;
+      faces = map (λ p. let f : Face = record {
+        state = (g.dyn-1.0.entry p.part.vtable).1.state p.part.value;
+        drives = (g.dyn-1.0.entry p.part.vtable).1.driven_in;
+        sees = (g.dyn-1.0.entry p.part.vtable).1.after_seeing;
+      } in f) c.args.parts.now.items;
+    } in
+    others_same lent (Some (seen c.args.command))
+
+pub returns-in-Replay-clause-others : goal.returns-in-Replay-clause-others
+returns-in-Replay-clause-others g c =
+    let lent : Lent = record {
+      names = map (λ p. string_bytes p.name) c.args.parts.now.items;
+      faces = map (λ p. let f : Face = record {
+        state = (g.dyn-1.0.entry p.part.vtable).1.state p.part.value;
+        drives = (g.dyn-1.0.entry p.part.vtable).1.driven_in;
+        sees = (g.dyn-1.0.entry p.part.vtable).1.after_seeing;
+      } in f) c.args.parts.now.items;
+    } in
+    others_same lent (Some (seen c.args.command))
+
+pub returns-in-Sim-clause-others : goal.returns-in-Sim-clause-others
+returns-in-Sim-clause-others g c =
+    let lent : Lent = record {
+      names = map (λ p. string_bytes p.name) c.args.parts.now.items;
+      faces = map (λ p. let f : Face = record {
+        state = (g.dyn-1.0.entry p.part.vtable).1.state p.part.value;
+        drives = (g.dyn-1.0.entry p.part.vtable).1.driven_in;
+        sees = (g.dyn-1.0.entry p.part.vtable).1.after_seeing;
+      } in f) c.args.parts.now.items;
+    } in
+    others_same lent (Some (seen c.args.command))
+
+pub returns-in-Net-clause-others : goal.returns-in-Net-clause-others
+returns-in-Net-clause-others g c =
+    let lent : Lent = record {
+      names = map (λ p. string_bytes p.name) c.args.parts.now.items;
+      faces = map (λ p. let f : Face = record {
+        state = (g.dyn-1.0.entry p.part.vtable).1.state p.part.value;
+        drives = (g.dyn-1.0.entry p.part.vtable).1.driven_in;
+        sees = (g.dyn-1.0.entry p.part.vtable).1.after_seeing;
+      } in f) c.args.parts.now.items;
+    } in
+    others_same lent (Some (seen c.args.command))
+
+pub returns-in-Stats-clause-others : goal.returns-in-Stats-clause-others
+returns-in-Stats-clause-others g c =
+    let lent : Lent = record {
+      names = map (λ p. string_bytes p.name) c.args.parts.now.items;
+      faces = map (λ p. let f : Face = record {
+        state = (g.dyn-1.0.entry p.part.vtable).1.state p.part.value;
+        drives = (g.dyn-1.0.entry p.part.vtable).1.driven_in;
+        sees = (g.dyn-1.0.entry p.part.vtable).1.after_seeing;
+      } in f) c.args.parts.now.items;
+    } in
+    others_same lent (Some (seen c.args.command))
+
+pub returns-in-Make-clause-others : goal.returns-in-Make-clause-others
+returns-in-Make-clause-others g c =
+    let lent : Lent = record {
+      names = map (λ p. string_bytes p.name) c.args.parts.now.items;
+      faces = map (λ p. let f : Face = record {
+        state = (g.dyn-1.0.entry p.part.vtable).1.state p.part.value;
+        drives = (g.dyn-1.0.entry p.part.vtable).1.driven_in;
+        sees = (g.dyn-1.0.entry p.part.vtable).1.after_seeing;
+      } in f) c.args.parts.now.items;
+    } in
+    others_same lent (Some (seen c.args.command))
+
+pub returns-in-Rules-clause-others : goal.returns-in-Rules-clause-others
+returns-in-Rules-clause-others g c =
+    let lent : Lent = record {
+      names = map (λ p. string_bytes p.name) c.args.parts.now.items;
+      faces = map (λ p. let f : Face = record {
+        state = (g.dyn-1.0.entry p.part.vtable).1.state p.part.value;
+        drives = (g.dyn-1.0.entry p.part.vtable).1.driven_in;
+        sees = (g.dyn-1.0.entry p.part.vtable).1.after_seeing;
+      } in f) c.args.parts.now.items;
+    } in
+    others_same lent (Some (seen c.args.command))
+
+pub returns-in-Board-clause-others : goal.returns-in-Board-clause-others
+returns-in-Board-clause-others g c =
+    let lent : Lent = record {
+      names = map (λ p. string_bytes p.name) c.args.parts.now.items;
+      faces = map (λ p. let f : Face = record {
+        state = (g.dyn-1.0.entry p.part.vtable).1.state p.part.value;
+        drives = (g.dyn-1.0.entry p.part.vtable).1.driven_in;
+        sees = (g.dyn-1.0.entry p.part.vtable).1.after_seeing;
+      } in f) c.args.parts.now.items;
+    } in
+    let words : List (List ℕ) = map string_bytes c.in-Board.links.now in
+    others_words lent _ (Some (seen c.args.command))
+    (Some (Board c.in-Board.source.now c.in-Board.cif.now c.in-Board.clocks words))
+    (sym (ap (λ k. Some (seen k)) c.in-Board.is)) c.board.ensures.others

@@ -3,6 +3,7 @@ use Rattle.std.specs.Prelude.{string_bytes}
 use Rattle.outcome.specs.declared.status.Status.TheVariants.{NoMemory}
 use Rattle.board.specs.Face.{Face}
 use Rattle.board_command.specs.Parts.{Lent}
+use Rattle.silicon.proofs.Others.{others_same, others_words}
 use Rattle.silicon.proofs.Moves.{keeps_all, keeps_words}
 use Rattle.command_line.specs.Command.{command_of, seen}
 use Rattle.silicon.proofs.RunLemmas.{leaves_command, leaves_no_command, leaves_nothing, tells_usage, tells_nothing}
@@ -112,3 +113,41 @@ returns-in-Ok-None-clause-made g c =
 
 pub returns-in-Err-clause-made : goal.returns-in-Err-clause-made
 returns-in-Err-clause-made g c = wanting_made (command_of c.args.words.now.items)
+
+pub returns-in-Ok-Some-clause-others : goal.returns-in-Ok-Some-clause-others
+returns-in-Ok-Some-clause-others g c =
+    let lent : Lent = record {
+      names = map (λ p. string_bytes p.name) c.args.parts.now.items;
+      faces = map (λ p. let f : Face = record {
+        state = (g.dyn-1.0.entry p.part.vtable).1.state p.part.value;
+        drives = (g.dyn-1.0.entry p.part.vtable).1.driven_in;
+        sees = (g.dyn-1.0.entry p.part.vtable).1.after_seeing;
+      } in f) c.args.parts.now.items;
+    } in
+    others_words lent _ (command_of c.args.words.now.items) (Some (seen c.in-Ok-Some.command))
+    ((rw (c.in-Ok-Some.field-0-is, c.in-Ok-Some.command-is) at c.in-Ok-Some.ensures)
+    ∙ ap command_of c.deref.ensures.value) c.run_command.ensures.others
+
+pub returns-in-Ok-None-clause-others : goal.returns-in-Ok-None-clause-others
+returns-in-Ok-None-clause-others g c =
+    let lent : Lent = record {
+      names = map (λ p. string_bytes p.name) c.args.parts.now.items;
+      faces = map (λ p. let f : Face = record {
+        state = (g.dyn-1.0.entry p.part.vtable).1.state p.part.value;
+        drives = (g.dyn-1.0.entry p.part.vtable).1.driven_in;
+        sees = (g.dyn-1.0.entry p.part.vtable).1.after_seeing;
+      } in f) c.args.parts.now.items;
+    } in
+    others_same lent (command_of c.args.words.now.items)
+
+pub returns-in-Err-clause-others : goal.returns-in-Err-clause-others
+returns-in-Err-clause-others g c =
+    let lent : Lent = record {
+      names = map (λ p. string_bytes p.name) c.args.parts.now.items;
+      faces = map (λ p. let f : Face = record {
+        state = (g.dyn-1.0.entry p.part.vtable).1.state p.part.value;
+        drives = (g.dyn-1.0.entry p.part.vtable).1.driven_in;
+        sees = (g.dyn-1.0.entry p.part.vtable).1.after_seeing;
+      } in f) c.args.parts.now.items;
+    } in
+    others_same lent (command_of c.args.words.now.items)
