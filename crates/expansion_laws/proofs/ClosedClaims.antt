@@ -84,14 +84,14 @@ same_function : (x y : Function) → Some x ≡ Some y → x ≡ y
 same_function x y e = same_Some x y e
 
 module _ (K : ExprKind → Type 0) (Q : List Expr → Type 0) (closed : IsClosed K Q) where
-  abbrev AreSo : List (List Expr) → Type 0
+  abbrev pub AreSo : List (List Expr) → Type 0
   AreSo os = AllByRecursion Q os
 
   -- a function with what its uses become
-  abbrev IsBody : Function → Body → Type 0
+  abbrev pub IsBody : Function → Body → Type 0
   IsBody f b = (at : Place) (os : List (List Expr)) → length os ≡ length f.args → AreSo os → Q (b at os)
 
-  abbrev AreBodies : List Function → List Body → Type 0
+  abbrev pub AreBodies : List Function → List Body → Type 0
   AreBodies [] [] = ⊤
   AreBodies [] (b ∷ bs) = ⊥
   AreBodies (f ∷ fs) [] = ⊥
@@ -158,7 +158,7 @@ module _ (K : ExprKind → Type 0) (Q : List Expr → Type 0) (closed : IsClosed
         (unwrap_or s.outermost x.place) (map (pieces_in s exprs) os)
         (length-map (pieces_in s exprs) os ∙ as_many) (map_so (pieces_in s exprs) os below)
 
-    so_in : (e : ℕ) → R e → IsLawful exprs s.functions e → Q (pieces_in s exprs e)
+    pub so_in : (e : ℕ) → R e → IsLawful exprs s.functions e → Q (pieces_in s exprs e)
     so_in e reached (lawful e2 x at fit below) =
         subst Q (sym (pieces_is s exprs sound e2 x at)) (kind_so x x.kind refl fit (gives e2 x reached at fit)
         (λ a c. so_in a (next e2 a x reached at c) (below a c)))
@@ -175,7 +175,7 @@ module _ (K : ExprKind → Type 0) (Q : List Expr → Type 0) (closed : IsClosed
         so_in (Under exprs f.body) (body_scope (take k fs) (bodies exprs fs k) f there os) exprs sound many all known
         (gives_body k f at) (λ e a x. under_more exprs f.body e a x) f.body itself (lawful_bodies k f at)
 
-    all_bodies : (k : ℕ) → k ≤ length fs → AreBodies (take k fs) (bodies exprs fs k)
+    pub all_bodies : (k : ℕ) → k ≤ length fs → AreBodies (take k fs) (bodies exprs fs k)
     all_bodies zero le = tt
     all_bodies (suc k) le =
         let known = all_bodies k (omega (arith, le)) in

@@ -75,7 +75,7 @@ plain_defs_fit n (d ∷ ds) h =
 -- ---- guards and values
 
 -- a guard or value stands among them in ascending order
-in_tops : (w : Program) (v : ℕ) → Contains (form_exprs w.forms) v → v < length w.exprs → Contains (tops w) v
+pub in_tops : (w : Program) (v : ℕ) → Contains (form_exprs w.forms) v → v < length w.exprs → Contains (tops w) v
 in_tops w v c lt =
     let test : ℕ → Bool = λ e. list_any (λ u. u == e) (form_exprs w.forms) in
     contains_filter test (range_with_len 0 (length w.exprs)) v

@@ -22,7 +22,7 @@ same_map : {X Y : Type 0} (f g : X → Y) (xs : List X) → ((x : X) → f x ≡
 same_map f g [] same = refl
 same_map f g (x ∷ xs) same = ap (λ y. y ∷ map f xs) (same x) ∙ ap (λ ys. g x ∷ ys) (same_map f g xs same)
 
-guards_moved : (go : ℕ → ℕ) (bs : List Branch)
+pub guards_moved : (go : ℕ → ℕ) (bs : List Branch)
     → map (λ (b : Branch). b.guard) (map (moved_branch go) bs) ≡ map go (map (λ (b : Branch). b.guard) bs)
 guards_moved go [] = refl
 guards_moved go (b ∷ bs) = ap (λ ys. go b.guard ∷ ys) (guards_moved go bs)

@@ -10,12 +10,12 @@ use Rattle.mp_written.specs.Laying.{laid, laid_kind, arity}
 use Rattle.expansion_laws.proofs.Laid.{Within, tops_within, within_drop}
 use Rattle.expansion_laws.proofs.Words.{vals_of}
 
-map_take : {X Y : Type 0} (f : X → Y) (k : ℕ) (xs : List X) → map f (take k xs) ≡ take k (map f xs)
+pub map_take : {X Y : Type 0} (f : X → Y) (k : ℕ) (xs : List X) → map f (take k xs) ≡ take k (map f xs)
 map_take f zero xs = refl
 map_take f (suc k) [] = refl
 map_take f (suc k) (x ∷ xs) = ap (λ ys. f x ∷ ys) (map_take f k xs)
 
-map_drop : {X Y : Type 0} (f : X → Y) (k : ℕ) (xs : List X) → map f (drop k xs) ≡ drop k (map f xs)
+pub map_drop : {X Y : Type 0} (f : X → Y) (k : ℕ) (xs : List X) → map f (drop k xs) ≡ drop k (map f xs)
 map_drop f zero xs = refl
 map_drop f (suc k) [] = refl
 map_drop f (suc k) (x ∷ xs) = map_drop f k xs

@@ -14,4 +14,4 @@ pub mod Readers
 pub mod Chains
 pub mod Weights
 pub mod MovedForms
-mod Existing
+pub mod Existing

@@ -1,5 +1,6 @@
--- Where what is written breaks no rule, the expansion breaks none but for the sorts of E22.
-use Rattle.std.proofs.Common.{◌≡◌, ◌∙◌, inl, inr, ℕ, ◌<◌, refl, subst}
+-- Where what is written breaks no rule, its expansion exists and breaks none.
+use Rattle.std.proofs.Common.{◌∙◌, inl, inr, ◌<◌, ◌≤◌, refl, subst}
+use Rattle.std.proofs.lemmas.Bool.{cases_lt}
 use Rattle.mp_base.specs.declared.refusal.Place.{Place}
 use Rattle.mp_base.specs.declared.limits.TheConstants.{WEIGHT_LIMIT}
 use Rattle.mp_program.specs.declared.program.Program as plain
@@ -8,9 +9,11 @@ use Rattle.mp_rules.specs.Rules as plain_rules
 use Rattle.mp_rules.specs.declared.limits.TheConstants.{EXPR_LIMIT}
 use Rattle.mp_written.specs.declared.program.Program.{Program}
 use Rattle.mp_written.specs.Expansion.{IsExpansion}
+use Rattle.mp_written.specs.Weight.{weight}
 use Rattle.written_rules.specs.Breaking.{IsUnbroken}
 use Rattle.written_rules.specs.Rules as rules
 use Rattle.expansion_laws.specs.Lawful.{IsLawfulProgram}
+use Rattle.expansion_laws.proofs.Existing.{expansion_exists}
 use Rattle.expansion_laws.proofs.Weights.{expansion_weighs, expansion_counts}
 use Rattle.expansion_rules.proofs.LawfulUses.{uses_are_lawful}
 use Rattle.expansion_rules.proofs.Numbers.{expansion_keeps23, expansion_keeps24}
@@ -18,6 +21,7 @@ use Rattle.expansion_rules.proofs.Cycles.{expansion_keeps33}
 use Rattle.expansion_rules.proofs.KeptForms.{keeps28, keeps29, keeps30, keeps31, keeps32, keeps36, keeps41, keeps42, keeps43}
 use Rattle.expansion_rules.proofs.KeptDefs.{keeps20, keeps25, keeps26, keeps27, keeps34, keeps35, keeps40}
 use Rattle.expansion_rules.proofs.KeptNames.{expansion_keeps21, driven_in_no_body}
+use Rattle.expansion_rules.proofs.KeptSorts.{expansion_keeps22}
 
 -- each rule that is kept as it is written
 module _ (w : Program) (unbroken : IsUnbroken w) where
@@ -111,27 +115,36 @@ module _ (w : Program) (unbroken : IsUnbroken w) where
     few at (over, place) =
         kept45 at (subst (λ n. EXPR_LIMIT < n) (expansion_counts w p lawful expands) over, place ∙ expands.place)
 
-    pub breaks_none_but_22 : (k : ℕ) (at : Place) → (k ≡ 22 → ⊥) → ¬ plain_breaking.Breaks p k at
-    breaks_none_but_22 k at other (inl (is, e)) = kept20 at (keeps20 w p expands at e)
-    breaks_none_but_22 k at other (inr (inl (is, e))) = expansion_keeps21 w p lawful expands kept20 kept21 kept22 kept39 at e
-    breaks_none_but_22 k at other (inr (inr (inl (is, e)))) = other is
-    breaks_none_but_22 k at other (inr (inr (inr (inl (is, e))))) = expansion_keeps23 w p lawful expands kept23 kept24 at e
-    breaks_none_but_22 k at other (inr (inr (inr (inr (inl (is, e)))))) = expansion_keeps24 w p lawful expands kept23 kept24 at e
-    breaks_none_but_22 k at other (inr (inr (inr (inr (inr (inl (is, e))))))) = kept25 at (keeps25 w p expands at e)
-    breaks_none_but_22 k at other (inr (inr (inr (inr (inr (inr (inl (is, e)))))))) = kept26 at (keeps26 w p expands at e)
-    breaks_none_but_22 k at other (inr (inr (inr (inr (inr (inr (inr (inl (is, e))))))))) = kept27 at (keeps27 w p expands at e)
-    breaks_none_but_22 k at other (inr (inr (inr (inr (inr (inr (inr (inr (inl (is, e)))))))))) = kept28 at (keeps28 w p expands at e)
-    breaks_none_but_22 k at other (inr (inr (inr (inr (inr (inr (inr (inr (inr (inl (is, e))))))))))) = kept29 at (keeps29 w p expands at e)
-    breaks_none_but_22 k at other (inr (inr (inr (inr (inr (inr (inr (inr (inr (inr (inl (is, e)))))))))))) = kept30 at (keeps30 w p expands at e)
-    breaks_none_but_22 k at other (inr (inr (inr (inr (inr (inr (inr (inr (inr (inr (inr (inl (is, e))))))))))))) = kept31 at (keeps31 w p expands at e)
-    breaks_none_but_22 k at other (inr (inr (inr (inr (inr (inr (inr (inr (inr (inr (inr (inr (inl (is, e)))))))))))))) = kept32 at (keeps32 w p expands at e)
-    breaks_none_but_22 k at other (inr (inr (inr (inr (inr (inr (inr (inr (inr (inr (inr (inr (inr (inl (is, e))))))))))))))) = expansion_keeps33 w p lawful expands (driven_in_no_body w p lawful expands kept20 kept21 kept22 kept39) kept33 at e
-    breaks_none_but_22 k at other (inr (inr (inr (inr (inr (inr (inr (inr (inr (inr (inr (inr (inr (inr (inl (is, e)))))))))))))))) = kept34 at (keeps34 w p expands at e)
-    breaks_none_but_22 k at other (inr (inr (inr (inr (inr (inr (inr (inr (inr (inr (inr (inr (inr (inr (inr (inl (is, e))))))))))))))))) = kept35 at (keeps35 w p expands at e)
-    breaks_none_but_22 k at other (inr (inr (inr (inr (inr (inr (inr (inr (inr (inr (inr (inr (inr (inr (inr (inr (inl (is, e)))))))))))))))))) = kept36 at (keeps36 w p expands at e)
-    breaks_none_but_22 k at other (inr (inr (inr (inr (inr (inr (inr (inr (inr (inr (inr (inr (inr (inr (inr (inr (inr (inl (is, e))))))))))))))))))) = kept40 at (keeps40 w p expands at e)
-    breaks_none_but_22 k at other (inr (inr (inr (inr (inr (inr (inr (inr (inr (inr (inr (inr (inr (inr (inr (inr (inr (inr (inl (is, e)))))))))))))))))))) = kept41 at (keeps41 w p expands at e)
-    breaks_none_but_22 k at other (inr (inr (inr (inr (inr (inr (inr (inr (inr (inr (inr (inr (inr (inr (inr (inr (inr (inr (inr (inl (is, e))))))))))))))))))))) = kept42 at (keeps42 w p expands at e)
-    breaks_none_but_22 k at other (inr (inr (inr (inr (inr (inr (inr (inr (inr (inr (inr (inr (inr (inr (inr (inr (inr (inr (inr (inr (inl (is, e)))))))))))))))))))))) = kept43 at (keeps43 w p expands at e)
-    breaks_none_but_22 k at other (inr (inr (inr (inr (inr (inr (inr (inr (inr (inr (inr (inr (inr (inr (inr (inr (inr (inr (inr (inr (inr (inl (is, e))))))))))))))))))))))) = light at e
-    breaks_none_but_22 k at other (inr (inr (inr (inr (inr (inr (inr (inr (inr (inr (inr (inr (inr (inr (inr (inr (inr (inr (inr (inr (inr (inr ((is, e)))))))))))))))))))))))) = few at e
+    pub breaks_none : plain_breaking.IsUnbroken p
+    breaks_none k at (inl (is, e)) = kept20 at (keeps20 w p expands at e)
+    breaks_none k at (inr (inl (is, e))) = expansion_keeps21 w p lawful expands kept20 kept21 kept22 kept39 at e
+    breaks_none k at (inr (inr (inl (is, e)))) = expansion_keeps22 w p lawful expands kept20 kept21 kept22 kept39 at e
+    breaks_none k at (inr (inr (inr (inl (is, e))))) = expansion_keeps23 w p lawful expands kept23 kept24 at e
+    breaks_none k at (inr (inr (inr (inr (inl (is, e)))))) = expansion_keeps24 w p lawful expands kept23 kept24 at e
+    breaks_none k at (inr (inr (inr (inr (inr (inl (is, e))))))) = kept25 at (keeps25 w p expands at e)
+    breaks_none k at (inr (inr (inr (inr (inr (inr (inl (is, e)))))))) = kept26 at (keeps26 w p expands at e)
+    breaks_none k at (inr (inr (inr (inr (inr (inr (inr (inl (is, e))))))))) = kept27 at (keeps27 w p expands at e)
+    breaks_none k at (inr (inr (inr (inr (inr (inr (inr (inr (inl (is, e)))))))))) = kept28 at (keeps28 w p expands at e)
+    breaks_none k at (inr (inr (inr (inr (inr (inr (inr (inr (inr (inl (is, e))))))))))) = kept29 at (keeps29 w p expands at e)
+    breaks_none k at (inr (inr (inr (inr (inr (inr (inr (inr (inr (inr (inl (is, e)))))))))))) = kept30 at (keeps30 w p expands at e)
+    breaks_none k at (inr (inr (inr (inr (inr (inr (inr (inr (inr (inr (inr (inl (is, e))))))))))))) = kept31 at (keeps31 w p expands at e)
+    breaks_none k at (inr (inr (inr (inr (inr (inr (inr (inr (inr (inr (inr (inr (inl (is, e)))))))))))))) = kept32 at (keeps32 w p expands at e)
+    breaks_none k at (inr (inr (inr (inr (inr (inr (inr (inr (inr (inr (inr (inr (inr (inl (is, e))))))))))))))) = expansion_keeps33 w p lawful expands (driven_in_no_body w p lawful expands kept20 kept21 kept22 kept39) kept33 at e
+    breaks_none k at (inr (inr (inr (inr (inr (inr (inr (inr (inr (inr (inr (inr (inr (inr (inl (is, e)))))))))))))))) = kept34 at (keeps34 w p expands at e)
+    breaks_none k at (inr (inr (inr (inr (inr (inr (inr (inr (inr (inr (inr (inr (inr (inr (inr (inl (is, e))))))))))))))))) = kept35 at (keeps35 w p expands at e)
+    breaks_none k at (inr (inr (inr (inr (inr (inr (inr (inr (inr (inr (inr (inr (inr (inr (inr (inr (inl (is, e)))))))))))))))))) = kept36 at (keeps36 w p expands at e)
+    breaks_none k at (inr (inr (inr (inr (inr (inr (inr (inr (inr (inr (inr (inr (inr (inr (inr (inr (inr (inl (is, e))))))))))))))))))) = kept40 at (keeps40 w p expands at e)
+    breaks_none k at (inr (inr (inr (inr (inr (inr (inr (inr (inr (inr (inr (inr (inr (inr (inr (inr (inr (inr (inl (is, e)))))))))))))))))))) = kept41 at (keeps41 w p expands at e)
+    breaks_none k at (inr (inr (inr (inr (inr (inr (inr (inr (inr (inr (inr (inr (inr (inr (inr (inr (inr (inr (inr (inl (is, e))))))))))))))))))))) = kept42 at (keeps42 w p expands at e)
+    breaks_none k at (inr (inr (inr (inr (inr (inr (inr (inr (inr (inr (inr (inr (inr (inr (inr (inr (inr (inr (inr (inr (inl (is, e)))))))))))))))))))))) = kept43 at (keeps43 w p expands at e)
+    breaks_none k at (inr (inr (inr (inr (inr (inr (inr (inr (inr (inr (inr (inr (inr (inr (inr (inr (inr (inr (inr (inr (inr (inl (is, e))))))))))))))))))))))) = light at e
+    breaks_none k at (inr (inr (inr (inr (inr (inr (inr (inr (inr (inr (inr (inr (inr (inr (inr (inr (inr (inr (inr (inr (inr (inr ((is, e)))))))))))))))))))))))) = few at e
+
+  -- the expansion exists
+  pub unbroken_expansion : (p : plain.Program) × IsExpansion w p × plain_breaking.IsUnbroken p
+  unbroken_expansion =
+      let light : weight w ≤ WEIGHT_LIMIT = elim (cases_lt WEIGHT_LIMIT (weight w)) [
+        | inl over ↦ absurd (kept44 w.place (over, refl))
+        | inr within ↦ within
+      ] in
+      let (p, expands) = expansion_exists w lawful light in (p, expands, breaks_none p expands)

@@ -34,17 +34,17 @@ use Rattle.mp_written.specs.declared.program.Expr.{Expr}
 use Rattle.mp_written.specs.declared.program.Program.{Program}
 use Rattle.mp_written.specs.Kinds.{is_supply, is_function, is_constant, is_driven}
 use Rattle.mp_written.specs.Functions.{Function, functions, arg_index}
-use Rattle.mp_written.specs.Sound.{Under}
+use Rattle.mp_written.specs.Sound.{InBody, Under}
 use Rattle.mp_written.specs.Laying.{laid_kind}
 use Rattle.mp_written.specs.Expansion.{IsExpansion, all_pieces, tops}
-use Rattle.written_rules.specs.Naming.{namings, def_naming, IsDefined, NamesNoValue, InBody, IsArgument, IsNamedAt}
+use Rattle.written_rules.specs.Naming.{namings, def_naming, IsDefined, NamesNoValue, IsArgument, IsNamedAt}
 use Rattle.written_rules.specs.Naming.{IsTargetAt}
 use Rattle.written_rules.specs.Rules as rules
 use Rattle.expansion_laws.specs.Lawful.{IsLawfulProgram}
 use Rattle.expansion_laws.proofs.ClosedClaims.{IsFree}
 use Rattle.expansion_laws.proofs.LeftKinds.{Kinds, all_kinds, kind_of}
 use Rattle.expansion_laws.proofs.Readers.{InNoBody}
-use Rattle.expansion_rules.proofs.Roots.{one_body, in_no_body, is_guard}
+use Rattle.mp_written.proofs.Roots.{one_body, in_no_body, is_guard}
 use Rattle.expansion_rules.proofs.KeptForms.{target_at}
 use Rattle.expansion_rules.proofs.KeptDefs.{written, supply_was, def_at, made_at}
 
@@ -232,7 +232,7 @@ module _ (w : Program) (p : plain.Program) (law : IsLawfulProgram w) (expands : 
     (keeps20 : (at : Place) → ¬ rules.E20 w at) (keeps21 : (at : Place) → ¬ rules.E21 w at)
     (keeps22 : (at : Place) → ¬ rules.E22 w at) (keeps39 : (at : Place) → ¬ rules.E39 w at) where
   -- something in the expansion has the name
-  abbrev HasNaming : List ℕ → Type 0
+  abbrev pub HasNaming : List ℕ → Type 0
   HasNaming x = (k : ℕ) × (n : Naming) × IsAt (plain_naming.namings p) k n × (n.name ≡ x)
 
   def_has : (d : ℕ) (x : Def) → IsAt w.defs d x → is_supply x.what ≡ false → is_function x.what ≡ false → HasNaming x.name
@@ -277,7 +277,7 @@ module _ (w : Program) (p : plain.Program) (law : IsLawfulProgram w) (expands : 
       ]
 
   -- a name that is left means a value
-  abbrev IsMeant : ExprKind → Type 0
+  abbrev pub IsMeant : ExprKind → Type 0
   IsMeant k = (x : List ℕ) → k ≡ Named x → HasNaming x × (NamesNoValue w x → ⊥)
 
   meant : (e : ℕ) (y : Expr) (x : List ℕ) → IsAt w.exprs e y → y.kind ≡ Named x → ¬ IsArgument w e x
@@ -290,13 +290,13 @@ module _ (w : Program) (p : plain.Program) (law : IsLawfulProgram w) (expands : 
         | inr nothing ↦ absurd (keeps21 y.place (inl (e, x, named, nothing, free)))
       ]
 
-  all_meant : Kinds IsMeant (all_pieces w)
+  pub all_meant : Kinds IsMeant (all_pieces w)
   all_meant = all_kinds IsMeant w law
       (λ k f at e y under there fit free x is.
       meant e y x there is (free_name w k f e x (at, under) (subst (IsFree f.args) is free)))
       (λ t c e y under there fit free x is. meant e y x there is (no_name w t e x c under))
 
-  target_meant : (x : List ℕ) (at : Place) → IsTargetAt w x at → HasNaming x × (NamesNoValue w x → ⊥)
+  pub target_meant : (x : List ℕ) (at : Place) → IsTargetAt w x at → HasNaming x × (NamesNoValue w x → ⊥)
   target_meant x at target =
       let value : NamesNoValue w x → ⊥ = λ no. keeps22 at (inr (inr (x, target, no))) in
       elim (defined_or_not w x) [

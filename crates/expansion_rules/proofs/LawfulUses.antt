@@ -19,17 +19,17 @@ use Rattle.mp_written.specs.declared.program.Expr.{Expr}
 use Rattle.mp_written.specs.declared.program.Program.{Program}
 use Rattle.mp_written.specs.Functions.{Function, functions, function_index}
 use Rattle.mp_written.specs.Tree.{operands}
-use Rattle.mp_written.specs.Sound.{AreBehind, Under, itself}
+use Rattle.mp_written.specs.Sound.{AreBehind, InBody, Under, itself}
 use Rattle.expansion_laws.specs.Lawful.{IsLawfulKind, IsLawful, lawful, AreLawfulBodies}
 use Rattle.expansion_laws.proofs.ClosedClaims.{under_more}
-use Rattle.written_rules.specs.Naming.{InBody, MayUse}
+use Rattle.written_rules.specs.Naming.{MayUse}
 use Rattle.written_rules.specs.Rules.{E21, E37}
 use Rattle.mp_written.specs.Sound.{FitsAsWritten}
 use Rattle.mp_written.specs.Expansion.{form_exprs}
 use Rattle.mp_written.proofs.Soundness.{sound}
 use Rattle.expansion_laws.specs.Lawful.{IsLawfulProgram}
 use Rattle.expansion_laws.proofs.Types.{inside}
-use Rattle.expansion_rules.proofs.Roots.{one_body, in_no_body, is_guard}
+use Rattle.mp_written.proofs.Roots.{one_body, in_no_body, is_guard}
 
 -- what a written program's type says of its kinds
 abbrev pub FitsType : ExprKind → Type 0

@@ -1,4 +1,3 @@
-pub mod Roots
 pub mod LawfulUses
 pub mod SortedPieces
 pub mod SomeSort
@@ -10,4 +9,5 @@ pub mod KeptDefs
 pub mod KeptNames
 pub mod OfSorts
 pub mod TopSorts
+pub mod KeptSorts
 mod Kept

@@ -1,15 +1,18 @@
 -- Where E21 and E22 aren't broken, each expression is what is wanted where it stands.
-use Rattle.std.proofs.Common.{◌≡◌, ◌∙◌, ◌⊎◌, inl, inr, ℕ, List, [], Bool, true, false, refl, sym, ap, subst, length}
+use Rattle.std.proofs.Common.{◌≡◌, ◌∙◌, ◌⊎◌, inl, inr, ℕ, zero, suc, List, [], ◌∷◌, Bool, true, false, refl, sym, ap, subst, length}
 use Rattle.std.proofs.Common.{map}
-use Rattle.std.specs.Prelude.{◌≢◌, ◌&&◌, ◌||◌, ◌==◌, not, filter, Contains, Option, Some, None, slice_get, slice_index_or}
+use Rattle.std.specs.Prelude.{◌≢◌, ◌&&◌, ◌||◌, ◌==◌, not, filter, Contains, Option, Some, None, slice_get, slice_index_or, nat_lt}
 use Rattle.std.proofs.lemmas.Bool.{and_parts, eqb-true}
+use Rattle.std.proofs.lemmas.Option.{none-some, same_Some}
 use Rattle.mp_base.specs.declared.refusal.Place.{Place}
 use Rattle.mp_base.specs.Entries.{IsAt}
 use Rattle.mp_base.proofs.Contents.{contains_from_filter, nothing_in}
 use Rattle.mp_base.proofs.Entries.{each_at, get_map, get_from_contains, contains_from_get}
 use Rattle.mp_base.proofs.Induction.{by_test}
 use Rattle.mp_base.proofs.Lists.{empty_of}
-use Rattle.mp_program.specs.Fits.{is_symbol}
+use Rattle.mp_program.specs.Fits.{is_symbol, form_fits, forms_fit}
+use Rattle.mp_program.specs.declared.program.Form.{Form}
+use Rattle.mp_program.specs.declared.program.FormKind.TheVariants.{Set}
 use Rattle.mp_rules.specs.Naming.{process_naming}
 use Rattle.mp_rules.specs.Naming as plain_naming
 use Rattle.mp_rules.specs.Sorts.{Sort, IsWord, IsBit}
@@ -24,7 +27,7 @@ use Rattle.mp_written.specs.Fits.{def_fits, what_fits}
 use Rattle.mp_written.specs.Functions.{Function, arg_index}
 use Rattle.mp_written.specs.Tree.{operands}
 use Rattle.mp_written.proofs.Soundness.{fit, all_by}
-use Rattle.written_rules.specs.Naming.{def_naming, NamesNoValue, IsArgument, IsNamedAt}
+use Rattle.written_rules.specs.Naming.{def_naming, IsDefined, NamesNoValue, IsArgument, IsNamedAt, IsTargetAt}
 use Rattle.written_rules.specs.Sorts.{name_sort, expr_sort, IsWanted, sort_at, function_sorts}
 use Rattle.written_rules.specs.Sorts as sorts
 use Rattle.written_rules.specs.Rules as rules
@@ -44,6 +47,15 @@ only_first : (b : Bool) → (b || false) ≡ true → b ≡ true
 only_first true h = refl
 only_first false h = h
 
+form_fit_at : (e n at : ℕ) (ys : List Form) → forms_fit e n at ys ≡ true → (f : ℕ) (y : Form) → IsAt ys f y
+    → (i : ℕ) × (form_fits e n i y.kind ≡ true)
+form_fit_at e n at [] h f y is = absurd (none-some y is)
+form_fit_at e n at (z ∷ zs) h zero y is =
+    let here = (and_parts (form_fits e n at z.kind) (forms_fit e n (suc at) zs) h).0 in
+    (at, subst (λ (u : Form). form_fits e n at u.kind ≡ true) (same_Some z y is) here)
+form_fit_at e n at (z ∷ zs) h (suc f) y is =
+    form_fit_at e n (suc at) zs ((and_parts (form_fits e n at z.kind) (forms_fit e n (suc at) zs) h).1) f y is
+
 module _ (w : Program) (keeps21 : (at : Place) → ¬ rules.E21 w at) (keeps22 : (at : Place) → ¬ rules.E22 w at) where
   -- a symbol is the name of no supply
   no_supply : (i : ℕ) (d : Def) (x : List ℕ) → IsAt w.defs i d → d.name ≡ x → is_symbol x ≡ true → is_supply d.what ≡ false
@@ -58,38 +70,52 @@ module _ (w : Program) (keeps21 : (at : Place) → ¬ rules.E21 w at) (keeps22 :
       let bad : false ≡ true = subst (λ n. is_symbol n ≡ true) (sym same ∙ empty) symbol in absurd (cc)))
       (λ other. other)
 
-  -- a name that is no argument has a sort
-  pub named_has : (e : ℕ) (y : Expr) (x : List ℕ) → IsAt w.exprs e y → y.kind ≡ Named x → is_symbol x ≡ true → ¬ IsArgument w e x
-      → HasSort (name_sort w.defs x)
-  named_has e y x there is symbol free = elim (defined_or_not w x) [
-    | inr nothing ↦ absurd (keeps21 y.place (inl (e, x, named, nothing, free)))
-    | inl (k, n, at, same) ↦
-        elim (either_list (map def_naming kept) (map process_naming w.processes) k n at) [
-          | inl (j, here) ↦
-              (let (d, dj, naming) = get_map def_naming kept j n here in
-              let in_all = (contains_from_filter (λ (c : Def). not (is_supply c.what)) w.defs d (contains_from_get kept j d dj)).0 in
-              let (i, di) = get_from_contains w.defs d in_all in
-              name_sorted w.defs x values i d di (ap (λ (m : plain_naming.Naming). m.name) naming ∙ same))
-          | inr (j, here) ↦
-              (let (q, qj, naming) = get_map process_naming w.processes j n here in
-              absurd (value (inr (j, q, qj, ap (λ (m : plain_naming.Naming). m.name) naming ∙ same))))
-        ]
-  ]
+  -- a name that is defined and means a value has a sort
+  name_has : (x : List ℕ) → is_symbol x ≡ true → IsDefined w x → (NamesNoValue w x → ⊥) → HasSort (name_sort w.defs x)
+  name_has x symbol (k, n, at, same) value =
+      elim (either_list (map def_naming kept) (map process_naming w.processes) k n at) [
+        | inl (j, here) ↦
+            (let (d, dj, naming) = get_map def_naming kept j n here in
+            let in_all = (contains_from_filter (λ (c : Def). not (is_supply c.what)) w.defs d (contains_from_get kept j d dj)).0 in
+            let (i, di) = get_from_contains w.defs d in_all in
+            name_sorted w.defs x values i d di (ap (λ (m : plain_naming.Naming). m.name) naming ∙ same))
+        | inr (j, here) ↦
+            (let (q, qj, naming) = get_map process_naming w.processes j n here in
+            absurd (value (inr (j, q, qj, ap (λ (m : plain_naming.Naming). m.name) naming ∙ same))))
+      ]
     where
       kept : List Def
       kept = filter (λ (c : Def). not (is_supply c.what)) w.defs
-
-      named : IsNamedAt w e x y.place
-      named = (y, there, is, refl)
-
-      value : NamesNoValue w x → ⊥
-      value no_value = keeps22 y.place (inr (inl (e, x, named, free, no_value)))
 
       values : (i : ℕ) (d : Def) → IsAt w.defs i d → d.name ≡ x → (is_supply d.what ≡ false) × (is_function d.what ≡ false)
       values i d at name = (
         no_supply i d x at name symbol,
         by_test (is_function d.what) (λ yes. absurd (value (inl (i, d, at, name, yes)))) (λ other. other),
       )
+
+  -- a name that is no argument has a sort
+  pub named_has : (e : ℕ) (y : Expr) (x : List ℕ) → IsAt w.exprs e y → y.kind ≡ Named x → is_symbol x ≡ true → ¬ IsArgument w e x
+      → HasSort (name_sort w.defs x)
+  named_has e y x there is symbol free =
+      let named : IsNamedAt w e x y.place = (y, there, is, refl) in
+      elim (defined_or_not w x) [
+        | inr nothing ↦ absurd (keeps21 y.place (inl (e, x, named, nothing, free)))
+        | inl defined ↦
+            name_has x symbol defined (λ no_value. keeps22 y.place (inr (inl (e, x, named, free, no_value))))
+      ]
+
+  -- the target of a `setq` has a sort
+  pub target_has : (f : ℕ) (y : Form) (x : List ℕ) (at : Place) (v : ℕ) → IsAt w.forms f y → y.kind ≡ Set x at v
+      → HasSort (name_sort w.defs x)
+  target_has f y x at v there is =
+      let target : IsTargetAt w x at = (f, y, v, there, is) in
+      let (i, fits) = form_fit_at (length w.exprs) (length w.forms) 0 w.forms (fit w).forms f y there in
+      let symbol = (and_parts (is_symbol x) (nat_lt v (length w.exprs))
+      (subst (λ k. form_fits (length w.exprs) (length w.forms) i k ≡ true) is fits)).0 in
+      elim (defined_or_not w x) [
+        | inr nothing ↦ absurd (keeps21 at (inr (inl (x, target, nothing))))
+        | inl defined ↦ name_has x symbol defined (λ no_value. keeps22 at (inr (inr (x, target, no_value))))
+      ]
 
   -- in a scope, downward over the expressions
   module _ (fs : List Function) (known : List (Option Sort)) (args : List Arg) (R : ℕ → Type 0)

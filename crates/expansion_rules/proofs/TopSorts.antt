@@ -16,7 +16,7 @@ use Rattle.written_rules.specs.Sorts.{name_sort, IsWanted, sort_at, function_sor
 use Rattle.written_rules.specs.Rules as rules
 use Rattle.expansion_laws.specs.Lawful.{IsLawfulProgram}
 use Rattle.expansion_laws.proofs.ClosedClaims.{under_more}
-use Rattle.expansion_rules.proofs.Roots.{in_no_body, is_guard}
+use Rattle.mp_written.proofs.Roots.{in_no_body, is_guard}
 use Rattle.expansion_rules.proofs.KeptNames.{free_name, no_name}
 use Rattle.expansion_rules.proofs.SomeSort.{HasSort, functions_sorted}
 use Rattle.expansion_rules.proofs.OfSorts.{named_has, of_wanted, of_root}

@@ -45,3 +45,7 @@ IsApart w = AreApart (expr_places w.defs w.exprs w.forms)
 pub data Under (exprs : List Expr) : ℕ → ℕ → Type 0 where
   itself : {e : ℕ} → Under exprs e e
   deeper : {d e f : ℕ} → (y : Expr) → IsAt exprs d y → Contains (operands y.kind) e → Under exprs e f → Under exprs d f
+
+-- expression e stands in the body of function k, which is f
+abbrev pub InBody : Program → ℕ → Function → ℕ → Type 0
+InBody w k f e = IsAt (functions w) k f × Under w.exprs f.body e

@@ -1,3 +1,3 @@
-mod Frames
+pub mod Frames
 mod SameReads
-mod SameRules
+pub mod SameRules

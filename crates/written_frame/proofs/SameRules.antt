@@ -181,7 +181,7 @@ def_names (d ∷ ds) =
     ∙ ap (λ ys. def_naming d ∷ ys) (def_names ds)
     ∙ sym (ap (λ b. map def_naming (cond (not b) (d ∷ more) more)) no))
 
-namings_same : (w : Program) → plain_naming.namings (frame w) ≡ namings w
+pub namings_same : (w : Program) → plain_naming.namings (frame w) ≡ namings w
 namings_same w = ap (λ ns. ns ++ map plain_naming.process_naming w.processes) (def_names w.defs)
 
 all_pins : (ds : List Def) → flat_map (λ (d : plain_def.Def). d.pins) (map frame_def ds) ≡ flat_map (λ (d : Def). d.pins) ds

@@ -14,7 +14,7 @@ use Rattle.mp_written.specs.declared.program.Expr.{Expr}
 use Rattle.mp_written.specs.declared.program.Program.{Program}
 use Rattle.mp_written.specs.Kinds.{is_supply, is_function}
 use Rattle.mp_written.specs.Functions.{Function, functions}
-use Rattle.mp_written.specs.Sound.{Under}
+use Rattle.mp_written.specs.Sound.{InBody}
 
 abbrev pub def_naming : Def → Naming
 def_naming d = record { place = d.place; name = d.name }
@@ -34,10 +34,6 @@ Defines w x test = (d : ℕ) × (y : Def) × IsAt w.defs d y × (y.name ≡ x) �
 -- a process or a function has the name
 abbrev pub NamesNoValue : Program → List ℕ → Type 0
 NamesNoValue w x = Defines w x is_function ⊎ ((k : ℕ) × (q : Process) × IsAt w.processes k q × (q.name ≡ x))
-
--- expression e stands in the body of function k, which is f
-abbrev pub InBody : Program → ℕ → Function → ℕ → Type 0
-InBody w k f e = IsAt (functions w) k f × Under w.exprs f.body e
 
 -- x is an argument of the body around expression e
 abbrev pub IsArgument : Program → ℕ → List ℕ → Type 0

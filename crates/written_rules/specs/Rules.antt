@@ -26,10 +26,11 @@ use Rattle.mp_written.specs.declared.program.Expr.{Expr}
 use Rattle.mp_written.specs.declared.program.Program.{Program}
 use Rattle.mp_written.specs.Kinds.{is_supply, is_function, is_stored, is_constant, is_unset, is_input_signal}
 use Rattle.mp_written.specs.Functions.{Function, functions}
+use Rattle.mp_written.specs.Sound.{InBody}
 use Rattle.mp_written.specs.Reads.{Chain}
 use Rattle.mp_written.specs.Expansion.{all_pieces}
 use Rattle.mp_written.specs.Weight.{weight}
-use Rattle.written_rules.specs.Naming.{namings, IsDefined, Defines, NamesNoValue, InBody, IsArgument, MayUse}
+use Rattle.written_rules.specs.Naming.{namings, IsDefined, Defines, NamesNoValue, IsArgument, MayUse}
 use Rattle.written_rules.specs.Naming.{IsNamedAt, IsTargetAt, operators}
 use Rattle.written_rules.specs.Sorts.{IsWanted, HasSort}
 use Rattle.written_rules.specs.Standing.{StandsIn, IsLater}

@@ -18,7 +18,7 @@ use Rattle.mp_written.specs.declared.program.Def.{Def}
 use Rattle.mp_written.specs.declared.program.Expr.{Expr}
 use Rattle.mp_written.specs.declared.program.Program.{Program}
 use Rattle.mp_written.specs.Functions.{Function, functions, function_index, arg_index}
-use Rattle.written_rules.specs.Naming.{InBody}
+use Rattle.mp_written.specs.Sound.{InBody}
 
 -- constants, registers and ports are words, flags and signals are bits, and functions are neither
 abbrev pub what_sort : What → Option Sort

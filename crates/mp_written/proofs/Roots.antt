@@ -19,11 +19,10 @@ use Rattle.mp_written.specs.declared.program.Expr.{Expr}
 use Rattle.mp_written.specs.declared.program.Program.{Program}
 use Rattle.mp_written.specs.Functions.{Function, function_of, functions}
 use Rattle.mp_written.specs.Tree.{operands, body_in}
-use Rattle.mp_written.specs.Sound.{AreBehind, Under, itself, deeper}
+use Rattle.mp_written.specs.Sound.{AreBehind, Under, itself, deeper, InBody}
 use Rattle.mp_written.specs.Expansion.{form_exprs, tops}
 use Rattle.mp_written.proofs.Soundness.{sound}
 use Rattle.mp_written.proofs.Trees.{tree_fit}
-use Rattle.written_rules.specs.Naming.{InBody}
 
 -- ---- lists without repetition
 
@@ -97,6 +96,13 @@ above exprs d e (deeper {e = b} y at c under) = elim (above exprs b e under) [
       inr (record { parent = d; expr = y; under = itself; at = at; in_it = subst (Contains (operands y.kind)) same c })
   | inr a ↦ inr (record { parent = a.parent; expr = a.expr; under = deeper y at c a.under; at = a.at; in_it = a.in_it })
 ]
+
+-- what stands in an expression that stands in d stands in d
+pub under_also : (exprs : List Expr) (d e f : ℕ) (x : Expr) → Under exprs d e → IsAt exprs e x → Contains (operands x.kind) f
+    → Under exprs d f
+under_also exprs d e f x itself at c = deeper x at c itself
+under_also exprs d e f x (deeper {e = b} y there cb under) at c =
+    deeper y there cb (under_also exprs b e f x under at c)
 
 -- two roots of one expression are one
 module _ (exprs : List Expr) (sound : AreBehind exprs)
@@ -176,6 +182,12 @@ module _ (w : Program) where
 
   in_operands : (b : ℕ) (y : Expr) (d : ℕ) → IsAt w.exprs b y → Contains (operands y.kind) d → Contains within d
   in_operands b y d at c = contains_flat (λ (x : Expr). operands x.kind) w.exprs y d (contains_from_get w.exprs b y at) c
+
+  -- an expression stands in one other at most
+  pub one_parent : (a b : ℕ) (x y : Expr) (e : ℕ) → IsAt w.exprs a x → IsAt w.exprs b y → Contains (operands x.kind) e
+      → Contains (operands y.kind) e → a ≡ b
+  one_parent a b x y e ax by cx cy =
+      one_part (λ (z : Expr). operands z.kind) w.exprs operands_apart a b x y e ax by cx cy
 
   pub body_root : (k : ℕ) (f : Function) → IsAt (functions w) k f → IsRoot w.exprs f.body
   body_root k f here b y at c = distinct_front bodies (within ++ guards) all_apart f.body (in_bodies k f here)

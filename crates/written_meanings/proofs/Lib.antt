@@ -1,0 +1,4 @@
+pub mod FirstNumbers
+mod BodyOwners
+mod NotedFunctions
+mod MeantExprs

@@ -1,0 +1,4 @@
+pub mod Firsts
+pub mod Meanings
+pub mod Functions
+pub mod Owners
