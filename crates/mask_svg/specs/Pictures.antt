@@ -10,7 +10,9 @@ use Rattle.lam_geom.specs.declared.rect.Rect.{Rect}
 use Rattle.lam_geom.specs.Squares.{rank}
 use Rattle.cif_form.specs.Place.{layer_name}
 use Rattle.mask_svg.specs.declared.frame.Frame.{Frame}
-use Rattle.mask_svg.specs.Heights.{name_height}
+use Rattle.mask_svg.specs.declared.height.Way.{Way}
+use Rattle.mask_svg.specs.declared.height.Way.TheVariants.{Up, Across}
+use Rattle.mask_svg.specs.Heights.{name_height, name_way}
 use Rattle.mask_svg.specs.Looks.{entries_text, key_front, style_text, view_front}
 use Rattle.mask_svg.specs.Frames.{frame_of, grain, picture_height, picture_width, unit, unit_count}
 
@@ -65,9 +67,14 @@ escaped b =
 unfoldable pub place_text : FlatLabel → List ℕ
 place_text l = tagged (codes "<g transform='translate(") l.x ++ tagged (codes " ") (neg_ℤ l.y) ++ codes ")"
 
--- its name goes upwards, so high
-unfoldable pub height_text : ℕ → List ℕ
-height_text height = tagged (codes " rotate(-90) scale(") (pos height)
+-- which way its name goes
+abbrev pub way_tag : Way → List ℕ
+way_tag Up = codes " rotate(-90) scale("
+way_tag Across = codes " scale("
+
+-- how high its name is
+unfoldable pub height_text : Way → ℕ → List ℕ
+height_text way height = tagged (way_tag way) (pos height)
 
 -- its name, up to the end of the label
 unfoldable pub name_text : FlatLabel → List ℕ
@@ -77,13 +84,14 @@ name_text l = flat_map escaped l.name ++ codes "</text></g>\n"
 unfoldable pub named_text : FlatLabel → List ℕ
 named_text l = codes ")'><circle r='.2'/><text x='.3'>" ++ name_text l
 
--- a label with a name of some height, at the lower left corner of its square
-unfoldable pub sized_text : ℕ → FlatLabel → List ℕ
-sized_text height l = place_text l ++ height_text height ++ named_text l
+-- a label with a name that goes some way and has some height, at the lower left corner of its square
+unfoldable pub sized_text : Way → ℕ → FlatLabel → List ℕ
+sized_text way height l = place_text l ++ height_text way height ++ named_text l
 
 -- a label of a drawing with a unit and labels
 abbrev pub label_text : ℕ → List FlatLabel → FlatLabel → List ℕ
-label_text unit labels l = sized_text (name_height unit labels l) l
+label_text unit labels l =
+    let way = name_way unit labels l in sized_text way (name_height way unit labels l) l
 
 unfoldable pub labels_text : Frame → List FlatLabel → List ℕ
 labels_text f labels =

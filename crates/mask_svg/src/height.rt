@@ -1,13 +1,21 @@
-//! How high the names of labels are.
+//! How high the names of labels are, and which way they go.
 
-ghost use Rattle.std.specs.Prelude.{◌≡◌, fold, take};
+ghost use Rattle.std.specs.Prelude.{◌≡◌, fold, if◌then◌else◌, nat_lt, take};
 ghost use Rattle.mask_svg.specs.Heights.{distance, lowered};
 ghost use Rattle.mask_svg.specs.declared.height.TheConstants.{COMPARED};
+ghost use Rattle.mask_svg.specs.declared.height.Way.TheVariants.{Across, Up};
 
 use lam_geom::FlatLabel;
 
 /// Each label is compared with so many, the first ones of the drawing.
 pub(crate) const COMPARED: usize = 256;
+
+/// Which way a name goes.
+#[derive(Clone, Copy)]
+pub(crate) enum Way {
+    Up,
+    Across,
+}
 
 /// The labels with which each is compared.
 pub(crate) fn compared(labels: &[FlatLabel]) -> &[FlatLabel]
@@ -16,28 +24,47 @@ pub(crate) fn compared(labels: &[FlatLabel]) -> &[FlatLabel]
     &labels[..COMPARED.min(labels.len())]
 }
 
-fn distance(label: &FlatLabel, other: &FlatLabel) -> u64
-    ensures { result ≡ distance label.now other.now }
-{
-    label.x.abs_diff(other.x).max(label.y.abs_diff(other.y) / 4)
-}
+impl Way {
+    fn distance(self, label: &FlatLabel, other: &FlatLabel) -> u64
+        ensures { result ≡ distance self label.now other.now }
+    {
+        let aside = label.x.abs_diff(other.x);
+        let above = label.y.abs_diff(other.y);
+        match self {
+            Way::Up => aside.max(above / 4),
+            Way::Across => above.max(aside / 4),
+        }
+    }
 
-fn lowered(label: &FlatLabel, height: u64, other: &FlatLabel) -> u64
-    ensures { result ≡ lowered label.now height other.now }
-{
-    match distance(label, other) {
-        0 => height,
-        near => height.min(near),
+    fn lowered(self, label: &FlatLabel, height: u64, other: &FlatLabel) -> u64
+        ensures { result ≡ lowered self label.now height other.now }
+    {
+        match self.distance(label, other) {
+            0 => height,
+            near => height.min(near),
+        }
+    }
+
+    /// The height of the name of a label among others: the unit, or less where one of them is nearer.
+    pub fn height_among(self, label: &FlatLabel, others: &[FlatLabel], unit: u64) -> u64
+        ensures { result ≡ fold (lowered self label.now) unit others.now }
+    {
+        let mut height = unit;
+        for other in others {
+            height = self.lowered(label, height, other);
+        }
+        height
     }
 }
 
-/// The height of the name of a label among others: the unit, or less where one of them is nearer.
-pub(crate) fn height_among(label: &FlatLabel, others: &[FlatLabel], unit: u64) -> u64
-    ensures { result ≡ fold (lowered label.now) unit others.now }
+/// The way of the name of a label among others: upwards, or across where it is higher so.
+pub(crate) fn way_among(label: &FlatLabel, others: &[FlatLabel], unit: u64) -> Way
+    ensures { result ≡ (if nat_lt (fold (lowered Up label.now) unit others.now)
+        (fold (lowered Across label.now) unit others.now) then Across else Up) }
 {
-    let mut height = unit;
-    for other in others {
-        height = lowered(label, height, other);
+    if Way::Up.height_among(label, others, unit) < Way::Across.height_among(label, others, unit) {
+        Way::Across
+    } else {
+        Way::Up
     }
-    height
 }

@@ -8,10 +8,10 @@ ghost use Rattle.mask_svg.specs.Pictures.{key_corner_text, key_place_text, key_s
 ghost use Rattle.mask_svg.specs.Pictures.{labels_text, layer_text, layers, margin_text, name_text};
 ghost use Rattle.mask_svg.specs.Pictures.{named_text, near_sides_text, on_layer, picture_text, place_text, rect_text};
 ghost use Rattle.mask_svg.specs.Pictures.{scale_text, shapes_text, shift_text, sides_text, sized_text, top_move};
-ghost use Rattle.mask_svg.specs.Pictures.{view_text};
+ghost use Rattle.mask_svg.specs.Pictures.{view_text, way_tag};
 
 use crate::frame::{Frame, frame_of};
-use crate::height::{compared, height_among};
+use crate::height::{Way, compared, way_among};
 use crate::style::{key_entries, key_front, style, view_front};
 use crate::text::{push_count, push_name, push_negated, push_tagged};
 use lam_geom::{FlatLabel, Layer, Rect};
@@ -137,11 +137,20 @@ fn push_place(text: &mut Vec<u8>, label: &FlatLabel) -> Result<(), AllocError>
     text.extend_from_slice(b")")
 }
 
-#[tactic(auto, unfolding(crate::specs::Pictures::height_text))]
-fn push_height(text: &mut Vec<u8>, height: u64) -> Result<(), AllocError>
-    ensures { OnOk result (text.new.items ≡ text.old.items ++ height_text height) }
+fn way_tag(way: Way) -> &'static [u8]
+    ensures { result.now ≡ way_tag way }
 {
-    push_count(text, b" rotate(-90) scale(", height as u128)
+    match way {
+        Way::Up => b" rotate(-90) scale(",
+        Way::Across => b" scale(",
+    }
+}
+
+#[tactic(auto, unfolding(crate::specs::Pictures::height_text))]
+fn push_height(text: &mut Vec<u8>, way: Way, height: u64) -> Result<(), AllocError>
+    ensures { OnOk result (text.new.items ≡ text.old.items ++ height_text way height) }
+{
+    push_count(text, way_tag(way), height as u128)
 }
 
 #[tactic(auto, unfolding(crate::specs::Pictures::name_text))]
@@ -161,11 +170,16 @@ fn push_named(text: &mut Vec<u8>, label: &FlatLabel) -> Result<(), AllocError>
 }
 
 #[tactic(auto, unfolding(crate::specs::Pictures::sized_text))]
-fn push_label(text: &mut Vec<u8>, height: u64, label: &FlatLabel) -> Result<(), AllocError>
-    ensures { OnOk result (text.new.items ≡ text.old.items ++ sized_text height label.now) }
+fn push_label(
+    text: &mut Vec<u8>,
+    way: Way,
+    height: u64,
+    label: &FlatLabel,
+) -> Result<(), AllocError>
+    ensures { OnOk result (text.new.items ≡ text.old.items ++ sized_text way height label.now) }
 {
     push_place(text, label)?;
-    push_height(text, height)?;
+    push_height(text, way, height)?;
     push_named(text, label)
 }
 
@@ -175,7 +189,8 @@ fn push_all(text: &mut Vec<u8>, unit: u64, labels: &[FlatLabel]) -> Result<(), A
 {
     let others = compared(labels);
     for label in labels {
-        push_label(text, height_among(label, others, unit), label)?;
+        let way = way_among(label, others, unit);
+        push_label(text, way, way.height_among(label, others, unit), label)?;
     }
     Ok(())
 }
