@@ -38,14 +38,16 @@ def path(layer, rects):
     return f"<path class='{layer}' d='{shapes}'/>\n"
 
 
-def height(x, y, labels, unit):
-    """The unit, or the distance of the nearest label where that is less, of which a name takes four times as much upwards."""
-    gaps = (max(abs(x - i), abs(y - j) // 4) for _, i, j in labels[:256])
+def height(x, y, labels, unit, along, across):
+    """The unit, or the distance of the nearest label where that is less, of which a name takes four times as much along it."""
+    gaps = (max(abs(x - i) // across, abs(y - j) // along) for _, i, j in labels[:256])
     return min([unit] + [gap for gap in gaps if gap])
 
 
 def label(name, x, y, labels, unit):
-    return (f"<g transform='translate({x} {-y}) rotate(-90) scale({height(x, y, labels, unit)})'>"
+    upwards, across = height(x, y, labels, unit, 4, 1), height(x, y, labels, unit, 1, 4)
+    turn = "" if across > upwards else "rotate(-90) "
+    return (f"<g transform='translate({x} {-y}) {turn}scale({max(upwards, across)})'>"
             f"<circle r='.2'/><text x='.3'>{escaped(name)}</text></g>\n")
 
 
