@@ -1,5 +1,5 @@
-mod Deciding
+pub mod Deciding
 mod Forms
-mod Words
-mod Ruled
+pub mod Words
+pub mod Ruled
 mod Verdict

@@ -16,7 +16,8 @@ use Rattle.mp_written.specs.Functions.{Function, functions, function_index, arg_
 use Rattle.mp_written.specs.Tree.{operands}
 use Rattle.mp_written.specs.Sound.{AreBehind}
 use Rattle.written_counts.specs.Totals.{total, worth, AreCounts}
-use Rattle.mp_written.specs.Pieces.{Scope, Body, kind_pieces, copied, name_pieces, pieces_in, nothing, body_scope, body_of}
+use Rattle.mp_written.specs.Pieces.{Scope, Body, kind_pieces, copied, name_pieces, pieces_in, nothing, body_scope}
+use Rattle.mp_written.specs.Pieces.{body_of}
 use Rattle.mp_written.specs.Pieces.{bodies, outside, pieces}
 use Rattle.written_counts.specs.Counts.{Count, kind_count, count_in, no_count, weighed, one_of}
 use Rattle.written_counts.specs.Counts.{body_count, function_counts, counted}
@@ -73,7 +74,8 @@ module _ (m : ExprKind → ℕ) (s : Scope) (cs : List Count) (exprs : List Expr
   kind_counts i x (Apply op k os) is fit below known =
       let split = sum_by-append (λ (y : Expr). m y.kind) (copied s x) (flat_map (pieces_in s exprs) os) in
       let flat = sum_flat (λ (y : Expr). m y.kind) (pieces_in s exprs) os in
-      let each = sum_behind i (length exprs) os (λ a. total m (pieces_in s exprs a)) (λ a. worth (counts a) ns) below fit in
+      let each = sum_behind i (length exprs) os (λ a. total m (pieces_in s exprs a)) (λ a. worth
+      (counts a) ns) below fit in
       let plus = sum_plus (λ a. (counts a).own) (λ a. weighed (counts a).times 0 ns) os in
       let turn = weighed_sum (λ a. (counts a).times) 0 ns os in
       let owns = sum_map (λ (c : Count). c.own) counts os in
@@ -86,9 +88,11 @@ module _ (m : ExprKind → ℕ) (s : Scope) (cs : List Count) (exprs : List Expr
       same_times rs = same_weighed _ _ 0 ns (λ j. sym (sum_map (λ (c : Count). c.times j) counts rs))
   kind_counts i x (Use at name os) is fit below known =
       let f = slice_index_or cs (function_index s.functions name) no_count in
-      let whole = known (function_index s.functions name) (unwrap_or s.outermost x.place) (map (pieces_in s exprs) os) in
+      let whole = known (function_index s.functions name) (unwrap_or s.outermost x.place) (map
+      (pieces_in s exprs) os) in
       let twice = map_map (total m) (pieces_in s exprs) os in
-      let each = map_behind i (length exprs) os (λ a. total m (pieces_in s exprs a)) (λ a. worth (counts a) ns) below fit in
+      let each = map_behind i (length exprs) os (λ a. total m (pieces_in s exprs a)) (λ a. worth
+      (counts a) ns) below fit in
       let through = weighed_through f.times (λ a. (counts a).own) (λ a. (counts a).times) ns 0 os in
       let inner = ap (λ ks. weighed f.times 0 ks) (twice ∙ each) in
       let owns = ap (λ ks. weighed f.times 0 ks) (map_map (λ (c : Count). c.own) counts os) in
@@ -112,7 +116,8 @@ one_more : (m : ExprKind → ℕ) (bs : List Body) (cs : List Count) (b : Body) 
 one_more m [] [] b c same known new zero at os = new at os
 one_more m [] [] b c same known new (suc k) at os = past k
   where
-    past : (j : ℕ) → total m (slice_index_or [] j nothing at os) ≡ worth (slice_index_or [] j no_count) (map (total m) os)
+    past : (j : ℕ) → total m (slice_index_or [] j nothing at os) ≡ worth (slice_index_or [] j no_count) (map
+        (total m) os)
     past zero = none_weighed 0 (map (total m) os)
     past (suc j) = none_weighed 0 (map (total m) os)
 one_more m [] (d ∷ cs) b c same known new k at os = absurd (omega (arith, same))
@@ -125,11 +130,17 @@ one_more m (a ∷ bs) (d ∷ cs) b c same known new (suc k) at os =
 abbrev pub HaveBodies : List Expr → List Function → Type 0
 HaveBodies exprs fs = (k : ℕ) (f : Function) → slice_get fs k ≡ Some f → f.body < length exprs
 
-module _ (m : ExprKind → ℕ) (exprs : List Expr) (fs : List Function) (sound : AreBehind exprs) (have : HaveBodies exprs fs) where
+module _ (m : ExprKind → ℕ) (exprs : List Expr) (fs : List Function) (sound : AreBehind exprs)
+    (have : HaveBodies exprs fs) where
   length-bodies : (k : ℕ) → length (bodies exprs fs k) ≡ k
   length-bodies zero = refl
   length-bodies (suc k) = let rest = length-bodies k in
-      omega (arith, rest, length-append (bodies exprs fs k) (body_of exprs (take k fs) (bodies exprs fs k) (slice_get fs k) ∷ []))
+      omega (
+        arith,
+        rest,
+        length-append (bodies exprs fs k) (body_of exprs (take k fs) (bodies exprs fs k)
+            (slice_get fs k) ∷ []),
+      )
 
   length-counts : (k : ℕ) → length (function_counts m exprs fs k) ≡ k
   length-counts zero = refl

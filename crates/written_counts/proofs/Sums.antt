@@ -31,7 +31,8 @@ sum_behind i n (f ∷ fs) g h same ((low, high), others) =
 
 pub weighed_none : (i : ℕ) (ns : List ℕ) → weighed (λ j. 0) i ns ≡ 0
 weighed_none i [] = refl
-weighed_none i (n ∷ ns) = let rest = weighed_none (suc i) ns in let z : 0 * n ≡ 0 = grind arith in omega (arith, rest, z)
+weighed_none i (n ∷ ns) = let rest = weighed_none (suc i) ns in let z : 0 * n ≡ 0 = grind arith in
+    omega (arith, rest, z)
 
 pub weighed_plus : (t u : ℕ → ℕ) (i : ℕ) (ns : List ℕ)
     → weighed (λ j. t j + u j) i ns ≡ weighed t i ns + weighed u i ns

@@ -33,7 +33,8 @@ tops_within w v c =
     let bounds = range_members 0 (length w.exprs) v (contains_member (range_with_len 0 (length w.exprs)) v in_range) in
     omega (arith, bounds.1)
 
-pub pieces_counted : (m : ExprKind → ℕ) (w : Program) (e : ℕ) → e < length w.exprs → total m (pieces w e) ≡ counted m w e
+pub pieces_counted : (m : ExprKind → ℕ) (w : Program) (e : ℕ) → e < length w.exprs
+    → total m (pieces w e) ≡ counted m w e
 pieces_counted m w e lt = counted_is m w (sound w).behind (λ k f at. ((sound w).defs k f at).body) e lt
 
 pub all_counted : (m : ExprKind → ℕ) (w : Program) → total m (all_pieces w) ≡ sum_by (λ v. counted m w v) (tops w)

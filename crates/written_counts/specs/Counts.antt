@@ -1,6 +1,7 @@
--- How much the expressions count that an expression becomes, without making them: once for each function, with how often
--- each of its arguments occurs.
-use Rattle.std.specs.Prelude.{ℕ, zero, suc, ◌+◌, ◌*◌, ◌==◌, List, [], ◌∷◌, ◌++◌, Option, Some, None, map, take, slice_get}
+-- How much the expressions count that an expression becomes, without making them: once for each function, with how
+-- often each of its arguments occurs.
+use Rattle.std.specs.Prelude.{ℕ, zero, suc, ◌+◌, ◌*◌, ◌==◌, List, [], ◌∷◌, ◌++◌, Option, Some, None, map, take}
+use Rattle.std.specs.Prelude.{slice_get}
 use Rattle.std.specs.Prelude.{slice_index_or, length, if◌then◌else◌}
 use Rattle.std.specs.List.{sum_by}
 use Rattle.mp_base.specs.Table.{table}
@@ -44,8 +45,8 @@ count_through f cs = record {
   times = λ i. weighed f.times 0 (map (λ (c : Count). c.times i) cs);
 }
 
--- the count of an expression of this kind, where c gives those of its operands; m says what each kind counts, and counts
--- those of the functions that may be used
+-- the count of an expression of this kind, where c gives those of its operands; m says what each kind counts, and
+-- counts those of the functions that may be used
 abbrev pub kind_count : (ExprKind → ℕ) → List Function → List Count → List Arg → ExprKind → (ℕ → Count) → Count
 kind_count m fs counts args (Number n) c = record { own = m (Number n); times = λ i. 0 }
 kind_count m fs counts args (Named name) c = one_of (arg_index args name) (m (Named name))
@@ -76,4 +77,5 @@ function_counts m exprs fs (suc k) = function_counts m exprs fs k
 
 -- what the expression at an index counts, outside of bodies
 abbrev pub counted : (ExprKind → ℕ) → Program → ℕ → ℕ
-counted m w e = (count_in m (functions w) (function_counts m w.exprs (functions w) (length (functions w))) [] w.exprs e).own
+counted m w e =
+    (count_in m (functions w) (function_counts m w.exprs (functions w) (length (functions w))) [] w.exprs e).own

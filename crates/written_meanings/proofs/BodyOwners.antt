@@ -1,5 +1,6 @@
 -- Owners of bodies, and of what stands in an expression that has one.
-use Rattle.std.proofs.Common.{◌≡◌, ◌∙◌, ◌⊎◌, inl, inr, ℕ, ◌<◌, ◌≤◌, ◌+◌, List, [], ◌∷◌, ◌++◌, Bool, true, false, refl, sym, ap}
+use Rattle.std.proofs.Common.{◌≡◌, ◌∙◌, ◌⊎◌, inl, inr, ℕ, ◌<◌, ◌≤◌, ◌+◌, List, [], ◌∷◌, ◌++◌, Bool, true, false, refl}
+use Rattle.std.proofs.Common.{sym, ap}
 use Rattle.std.proofs.Common.{subst, arith, length, map, Option, Some, None, get_or, take}
 use Rattle.std.specs.Prelude.{slice_get, slice_set, Contains, ◌==◌}
 use Rattle.std.specs.List.{list_any}
@@ -61,7 +62,8 @@ passed_more o xs i x old now lt is small are = record {
     more = take_more xs i 0 lt ∙ ap (λ y. take i xs ++ y ∷ []) (sym is)
 
 -- the body at an index
-pub body_at : (w : Program) (bodies : List Body) (n : ℕ) (b : Body) → bodies ≡ map body_of (functions w) → n < length bodies
+pub body_at : (w : Program) (bodies : List Body) (n : ℕ) (b : Body) → bodies ≡ map body_of (functions w)
+    → n < length bodies
     → (f : Function) × IsAt (functions w) n f × (get_or bodies n b ≡ body_of f)
 body_at w bodies n b are lt =
     let size = ap length are ∙ length-map (functions w) body_of in
@@ -153,7 +155,11 @@ module _ (w : Program) where
       → IsOwner w d o
   inner_owner e d y None at c none = λ k f (here, under). elim (above w.exprs f.body d under) [
     | inl same ↦ body_root w k f here e y at (subst (Contains (operands y.kind)) (sym same) c)
-    | inr a ↦ none k f (here, subst (Under w.exprs f.body) (one_parent w a.parent e a.expr y d a.at at a.in_it c) a.under)
+    | inr a ↦ none k f (
+      here,
+      subst (Under w.exprs f.body) (one_parent w a.parent e a.expr y d a.at at a.in_it c)
+          a.under,
+    )
   ]
   inner_owner e d y (Some k) at c (f, (here, under)) = (f, (here, under_also w.exprs f.body e d y under at c))
 
@@ -169,7 +175,8 @@ module _ (w : Program) where
     where
       own : IsOwner w e o
       own = are.each e o here (λ b z is has.
-          (holds_of_contained (λ k. (b < k) × (k < length w.exprs)) (operands z.kind) e ((sound w).behind b z is) has).0)
+          (holds_of_contained (λ k. (b < k) × (k < length w.exprs)) (operands z.kind) e
+          ((sound w).behind b z is) has).0)
 
       before : (d : ℕ) → (Contains (operands y.kind) d → ⊥) → StandsInFirst w (e + 1) d → (b : ℕ) (z : Expr)
           → IsAt w.exprs b z → Contains (operands z.kind) d → b < e

@@ -35,7 +35,8 @@ function_more fs f t u a are numbers bodies args known = record {
       | inr last ↦ absurd (let lt = old.0 in let is = last.0 in let size = are.as_many in omega (arith, lt, is, size))
     ]
     | inr new ↦ elim (push_cases t.args a k b (subst (λ xs. IsAt xs k b) args at)) [
-      | inl before ↦ absurd (let lt = before.0 in let is = new.0 in let size = are.as_many in omega (arith, lt, is, size))
+      | inl before ↦ absurd (let lt = before.0 in let is = new.0 in let size = are.as_many in
+          omega (arith, lt, is, size))
       | inr last ↦
           subst (λ (h : Function). AreFirsts (map (λ (c : Arg). c.name) h.args) b) new.1
           (subst (AreFirsts (map (λ (c : Arg). c.name) f.args)) last.1 known)
@@ -48,7 +49,8 @@ pub def_more : (ds : List Def) (d : Def) (o : Option Function) → function_of d
     → filter_map (λ (y : Def). function_of y y.what) (ds ++ d ∷ [])
     ≡ filter_map (λ (y : Def). function_of y y.what) ds ++ option_to_list o
 def_more ds d o is = filter_map-append (λ (y : Def). function_of y y.what) ds (d ∷ [])
-    ∙ ap (λ ys. filter_map (λ (y : Def). function_of y y.what) ds ++ ys) (turn (function_of d d.what) ∙ ap option_to_list is)
+    ∙ ap (λ ys. filter_map (λ (y : Def). function_of y y.what) ds ++ ys) (turn (function_of d d.what)
+    ∙ ap option_to_list is)
   where
     turn : (p : Option Function) → cons_option p [] ≡ option_to_list p
     turn None = refl

@@ -83,7 +83,8 @@ impl<'a> Functions<'a> {
 
     // Adds a definition, if it is a function.
     fn note(&mut self, alloc: Global, def: &'a Def) -> Result<(), AllocError>
-        ensures { OnOk result ((ds : List Def) → AreFunctions (filter_map (λ (d : Def). function_of d d.what) ds) self.old
+        ensures { OnOk result ((ds : List Def)
+            → AreFunctions (filter_map (λ (d : Def). function_of d d.what) ds) self.old
             → AreFunctions (filter_map (λ (d : Def). function_of d d.what) (ds ++ def.now ∷ [])) self.new) }
     {
         match &def.what {

@@ -6,5 +6,6 @@ mod functions;
 mod meanings;
 mod owners;
 
+pub use firsts::Firsts;
 pub use functions::Body;
 pub use meanings::{Meaning, Meanings, meanings_of};

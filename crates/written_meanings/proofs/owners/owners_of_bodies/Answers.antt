@@ -21,11 +21,13 @@ pub loop-number-preserved : goal.loop-number-preserved
 loop-number-preserved c =
     let w = c.args.program.now in
     let n = c.loop-number.number in
-    let (f, at, is) = body_at w c.args.bodies.now n (record { args = 0; expr = 0 }) c.requires c.loop-number-test.true in
+    let (f, at, is) = body_at w c.args.bodies.now n (record { args = 0; expr = 0 }) c.requires
+    c.loop-number-test.true in
     let index : c.in-Ok.number ≡ n = search rules in
     subst (AreBodies w (n + 1))
     (sym (c.set.ensures ∙ ap (λ (b : Body). slice_set c.loop-number.owners b.expr (Some c.in-Ok.number)) is
-    ∙ ap (λ k. slice_set c.loop-number.owners f.body (Some k)) index)) (body_more w n f c.loop-number.owners at c.loop-number.invariant)
+    ∙ ap (λ k. slice_set c.loop-number.owners f.body (Some k)) index))
+    (body_more w n f c.loop-number.owners at c.loop-number.invariant)
 
 pub returns : goal.returns
 returns c =

@@ -23,7 +23,8 @@ returns c fs f named args body are =
     let size : c.in-Ok-try_from.count ≡ length f.args = omega (arith, count, wide, all) in
     let b : Body = record { args = c.in-Ok-try_from.count; expr = c.args.expr } in
     let same : b ≡ body_of f = cc (size, body) in
-    function_more fs f t (record { numbers = c.note.new.self; bodies = c.push.new.self; args = c.push-2.new.self }) a are
+    function_more fs f t (record { numbers = c.note.new.self; bodies = c.push.new.self; args = c.push-2.new.self })
+    a are
     (subst (λ x. AreFirsts (names fs ++ x ∷ []) c.note.new.self) (c.bytes.ensures ∙ sym named) noted)
     (c.in_ok-push.ensures.ok ∙ ap (λ x. t.bodies ++ x ∷ []) same) c.in_ok-push-2.ensures.ok
     (subst (λ (l : List Arg). AreFirsts (map (λ (x : Arg). x.name) l) a) (c.as_slice.ensures ∙ sym args)

@@ -11,7 +11,13 @@ use Rattle.written_meanings.proofs.functions.Functions.note.Goals as goal
 pub returns-in-Function : goal.returns-in-Function
 returns-in-Function c = on_ok c.add.result (λ added ds are.
     let d = c.args.def.now in
-    let f : Function = record { place = d.place; name = d.name; args = c.in-Function.args; body = c.in-Function.body } in
+    let f : Function = record {
+      place = d.place;
+      name = d.name;
+      args = c.in-Function.args;
+      body =
+          c.in-Function.body;
+    } in
     subst (λ fs. AreFunctions fs c.add.new.self)
     (sym (def_more ds d (Some f) (ap (function_of d) c.in-Function.is)))
     (added (filter_map (λ (y : Def). function_of y y.what) ds) f refl refl refl are)) c.add.ensures

@@ -6,4 +6,5 @@ use Rattle.written_meanings.specs.Functions.{AreFunctions}
 use Rattle.written_meanings.proofs.functions.Functions.of.Given as goal
 
 abbrev pub invariant-loop-def : goal.invariant-loop-def
-invariant-loop-def l = AreFunctions (filter_map (λ (d : Def). function_of d d.what) (take l.def-index l.defs)) l.functions
+invariant-loop-def l = AreFunctions (filter_map (λ (d : Def). function_of d d.what)
+    (take l.def-index l.defs)) l.functions

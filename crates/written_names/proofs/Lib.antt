@@ -1,0 +1,13 @@
+mod FoundEntries
+mod EarliestFound
+mod LeastOffsets
+mod EarliestIndices
+mod MeantNames
+mod NameTables
+mod MisusedNames
+mod BrokenNames
+mod FunctionNames
+mod UnevenUses
+mod TakenNames
+mod ScopeSorts
+mod Misfits

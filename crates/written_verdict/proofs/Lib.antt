@@ -1,0 +1,6 @@
+mod OfKinds
+mod Bodies
+mod Sorts
+mod Ruled
+mod Verdict
+mod Placing

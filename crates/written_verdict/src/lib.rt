@@ -1,0 +1,4 @@
+//! A program as it is written breaks no rule, or one of them first.
+#![tactic(auto)]
+
+pub mod laws;
