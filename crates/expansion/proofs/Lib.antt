@@ -1,0 +1,11 @@
+pub mod Stops
+pub mod Fills
+pub mod Operators
+pub mod Uses
+pub mod Finding
+pub mod Scopes
+pub mod Marking
+pub mod Layouts
+pub mod Walking
+pub mod Moving
+pub mod Parts

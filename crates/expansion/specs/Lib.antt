@@ -1,0 +1,5 @@
+pub mod Filling
+pub mod Templates
+pub mod Leaves
+pub mod Walking
+pub mod Moving

@@ -1,0 +1,3 @@
+mod Ruled
+mod Keeping
+mod Judging
