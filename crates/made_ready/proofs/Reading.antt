@@ -19,13 +19,13 @@ use Rattle.mp_program.specs.Names.{is_input, is_output}
 use Rattle.mp_program.specs.Pads.{ArePadsOf, Face, face, pad_width, pads_that, input_pads, output_pads}
 use Rattle.stimulus.specs.declared.given.Stimulus.{Stimulus}
 use Rattle.stimulus.specs.Reading.{IsStimulus, IsFirst}
-use Rattle.mp_source.specs.Source.{IsSpelled, IsSource}
+use Rattle.mp_source.specs.Source.{IsSource}
 use Rattle.program_maker.specs.Texts.{source_text}
 use Rattle.made_program.specs.Made.{IsMade, defs_of}
 use Rattle.made_stimulus.specs.Clocks.{AreMadeInputs}
 
 abbrev pub OneSource : Type 0
-OneSource = (text : List ℕ) (p q : Program) → IsSpelled text p → IsSpelled text q → p ≡ q
+OneSource = (text : List ℕ) (p q : Program) → IsSource text p → IsSource text q → p ≡ q
 
 abbrev pub MadeSources : Type 0
 MadeSources = (seed : ℕ) → (p : Program) × IsSource (source_text seed) p × IsMade p
@@ -34,7 +34,7 @@ MadeSources = (seed : ℕ) → (p : Program) × IsSource (source_text seed) p ×
 pub read_is_made : OneSource → MadeSources → (seed : ℕ) (p : Program) → IsSource (source_text seed) p → IsMade p
 read_is_made one made seed p is =
     let m = made seed in
-    subst IsMade (one (source_text seed) m.0 p (m.1).spells is.spells) m.2
+    subst IsMade (one (source_text seed) m.0 p m.1 is) m.2
 
 module _ (p : Program) (m : IsMade p) where
   -- the faces of the pads of a kind

@@ -1,8 +1,11 @@
 pub mod Numbered
 pub mod Table
 pub mod Standing
+pub mod AsWritten
 pub mod Ranked
 pub mod Shaped
+pub mod OwnExpansion
+pub mod Expanded
 pub mod Texts
 pub mod Lengths
 pub mod Sources

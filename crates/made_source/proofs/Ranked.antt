@@ -14,14 +14,15 @@ use Rattle.form_reader.specs.declared.forms.Forms.{Forms}
 use Rattle.mp_shapes.specs.declared.table.Class.{Class}
 use Rattle.mp_shapes.specs.declared.table.Class.TheVariants.{Whole, Item, Element, Action, Branch, Value, Word, Numeral}
 use Rattle.mp_shapes.specs.Layout.{value_layout}
-use Rattle.mp_program.specs.declared.program.ExprKind.TheVariants.{Named, True, False, Apply}
-use Rattle.mp_program.specs.declared.program.Expr.{Expr}
+use Rattle.mp_written.specs.declared.program.ExprKind.TheVariants.{Named, True, False, Apply}
+use Rattle.mp_written.specs.declared.program.Expr.{Expr}
 use Rattle.mp_entries.specs.Entries.{nodes_below, ranks, stands_for_expr, stands_for_form, list_expr, symbol_expr}
 use Rattle.program_maker.specs.Texts.{operands}
 use Rattle.mp_program.specs.Names.{is_same}
 use Rattle.made_program.specs.Made.{Row, AreRows, exprs_from}
 use Rattle.made_program.proofs.Lists.{name_passes}
 use Rattle.made_source.specs.Written.{op_word}
+use Rattle.made_source.proofs.AsWritten.{written_expr}
 use Rattle.made_source.proofs.Table.{classes, op_layout}
 
 -- ---- ranks, counted along the classes
@@ -142,7 +143,7 @@ named x known =
 
 pub exprs_meant : (f : Forms) (idx : ℕ → ℕ) (at : ℕ → Place) (e node : ℕ) (rows : List Row) → AreRows rows
     → Follow idx e node (length rows)
-    → exprs_found f idx at node rows ≡ exprs_from at e node rows
+    → exprs_found f idx at node rows ≡ map written_expr (exprs_from at e node rows)
 exprs_meant f idx at e node [] are follow = refl
 exprs_meant f idx at e node (row ∷ rows) are follow =
     let rest : List Expr = exprs_found f idx at (node + 9) rows in

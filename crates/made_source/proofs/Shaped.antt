@@ -5,15 +5,24 @@ use Rattle.std.specs.List.{range_with_len, filter_map}
 use Rattle.mp_base.specs.declared.refusal.Place.{Place}
 use Rattle.form_reader.specs.declared.forms.Forms.{Forms}
 use Rattle.form_reader.specs.Sound.{kind_at, items_of}
-use Rattle.mp_program.specs.declared.program.Program.{Program}
+use Rattle.mp_written.specs.declared.program.Program.{Program}
 use Rattle.mp_entries.specs.Entries.{nodes_below, ranks, stands_for_expr, is_expr, is_form, number_at, expr_at, form_at}
 use Rattle.mp_entries.specs.Entries.{expr_index, form_index}
 use Rattle.mp_syntax.specs.Shape.{def_at, process_at, IsShape}
-use Rattle.made_program.specs.Made.{Row, AreRows, defs_of, exprs_from, forms_from, targets, IsMade}
+use Rattle.made_program.specs.Made.{Row, AreRows, defs_of, exprs_from, forms_from}
+use Rattle.made_source.proofs.AsWritten.{written_def, written_expr}
 use Rattle.made_source.proofs.Table.{classes, thirteen, made_forms}
 use Rattle.made_source.proofs.Standing.{classes_are}
 use Rattle.made_source.proofs.Ranked.{ranks_are, nodes_same, is_action, expr_ranks, form_ranks, is_no_element}
 use Rattle.made_source.proofs.Ranked.{form_test, passes_or, exprs_found, exprs_meant, Follow}
+
+-- what the made source of 13 rows spells, at these places
+pub record IsWrittenAs (at : ℕ → Place) (r : ℕ → Row) (w : Program) : Type 0 where
+  pub width : w.width ≡ 16
+  pub defs : w.defs ≡ map written_def (defs_of at)
+  pub exprs : w.exprs ≡ map written_expr (exprs_from at 0 144 (thirteen r))
+  pub forms : w.forms ≡ forms_from at 0 144 (thirteen r)
+  pub processes : w.processes ≡ []
 
 module _ (at : ℕ → Place) (end : Place) (r : ℕ → Row) (are : AreRows (thirteen r)) where
   abbrev f : Forms
@@ -67,7 +76,7 @@ module _ (at : ℕ → Place) (end : Place) (r : ℕ → Row) (are : AreRows (th
   )
 
   exprs_are : map (expr_at f (expr_index f classes)) (nodes_below (is_expr classes) (length f.nodes))
-      ≡ exprs_from at 0 144 (thirteen r)
+      ≡ map written_expr (exprs_from at 0 144 (thirteen r))
   exprs_are = ap (λ ks. map (expr_at f (slice_index ks)) (nodes_below (is_expr classes) 261)) expr_index_is
       ∙ found_exprs ∙ exprs_meant f (slice_index expr_ranks) at 0 144 (thirteen r) are follow
 
@@ -87,23 +96,21 @@ module _ (at : ℕ → Place) (end : Place) (r : ℕ → Row) (are : AreRows (th
       (range_with_len 0 261) is_form_is)
       ∙ found_forms
 
-  defs_are : filter_map (def_at f) items ≡ defs_of at
-  defs_are = refl
+  defs_are : (expr : ℕ → ℕ) → filter_map (def_at f expr) items ≡ map written_def (defs_of at)
+  defs_are expr = refl
 
   processes_are : (form : ℕ → ℕ) → filter_map (process_at f form) items ≡ []
   processes_are form = refl
 
-  pub shape_is_made : (p : Program) → map (λ (row : Row). row.target) (thirteen r) ≡ targets → IsShape f p → IsMade p
-  shape_is_made p goals shape =
+  pub shape_is_made : (w : Program) → IsShape f w → IsWrittenAs at r w
+  shape_is_made w shape =
       let one : shape.root ≡ 0 = root_is shape.root shape.one in
       let cs : shape.classes ≡ classes = classes_are at end r are shape.classes shape.known in
       record {
-        at = at;
-        rows = thirteen r;
-        are_rows = are;
-        targets_are = goals;
         width = shape.width ∙ ap (λ n. number_at f (slice_index (items_of (kind_at f n)) 2)) one;
-        defs = shape.defs ∙ ap (λ n. filter_map (def_at f) (drop 3 (items_of (kind_at f n)))) one ∙ defs_are;
+        defs = shape.defs
+            ∙ ap (λ n. filter_map (def_at f (expr_index f shape.classes)) (drop 3 (items_of (kind_at f n)))) one
+            ∙ defs_are (expr_index f shape.classes);
         exprs = shape.exprs ∙ ap (λ ks. map (expr_at f (expr_index f ks)) (nodes_below (is_expr ks) (length f.nodes)))
             cs ∙ exprs_are;
         forms = shape.forms ∙ ap

@@ -5,9 +5,12 @@ use Rattle.form_reader.specs.declared.forms.Forms.{Forms}
 use Rattle.form_reader.specs.Sound.{IsSound, HasSymbols}
 use Rattle.form_reader.specs.Spelling.{Spells}
 use Rattle.form_text.specs.Items.{Items, text_of, forms_of, IsWritten}
-use Rattle.mp_program.specs.declared.program.Program.{Program}
+use Rattle.mp_program.specs.declared.program.Program as plain
+use Rattle.mp_written.specs.declared.program.Program.{Program}
 use Rattle.mp_syntax.specs.Shape.{IsShape, IsFirst}
 use Rattle.mp_rules.specs.Breaking.{IsUnbroken}
+use Rattle.written_frame.specs.Frame.{IsFrame}
+use Rattle.written_frame.specs.SameRules.{HaveSameRules}
 use Rattle.mp_source.specs.Source.{IsSource}
 use Rattle.program_maker.specs.Texts.{source_text}
 use Rattle.made_program.specs.Made.{Row, IsMade}
@@ -16,6 +19,8 @@ use Rattle.made_source.proofs.Numbered.{places_of, forms_are}
 use Rattle.made_source.proofs.Table.{thirteen, made_forms}
 use Rattle.made_source.proofs.Standing.{no_E10, no_E11}
 use Rattle.made_source.proofs.Shaped.{shape_is_made}
+use Rattle.made_source.proofs.OwnExpansion.{ExpansionLaws, own_keeps}
+use Rattle.made_source.proofs.Expanded.{own, is_made}
 use Rattle.made_source.proofs.Texts.{row_at, rows_are, targets_are, source_is, made_is_written}
 
 -- the laws of the crates below
@@ -25,10 +30,13 @@ pub record Laws : Type 0 where
   pub written : (items : Items) (gap : List ℕ) → IsWritten items gap
       → Spells (text_of items ++ gap) (forms_of items gap)
   pub verdict : (f : Forms) → IsSound f → HasSymbols f
-      → ((p : Program) × IsShape f p) ⊎ ((k : ℕ) × (at : Place) × IsFirst f k at)
-  pub unbroken : (p : Program) → IsMade p → IsUnbroken p
+      → ((w : Program) × IsShape f w) ⊎ ((k : ℕ) × (at : Place) × IsFirst f k at)
+  pub frame : (w : Program) → (s : plain.Program) × IsFrame w s × ((q : plain.Program) → IsFrame w q → q ≡ s)
+  pub same : (w : Program) (s : plain.Program) → IsFrame w s → HaveSameRules w s
+  pub expansions : ExpansionLaws
+  pub unbroken : (p : plain.Program) → IsMade p → IsUnbroken p
 
-pub made_is_source : Laws → (seed : ℕ) → (p : Program) × IsSource (source_text seed) p × IsMade p
+pub made_is_source : Laws → (seed : ℕ) → (p : plain.Program) × IsSource (source_text seed) p × IsMade p
 made_is_source laws seed =
     let r : ℕ → Row = row_at seed in
     let items : Items = made_items (thirteen r) in
@@ -38,18 +46,23 @@ made_is_source laws seed =
     let same : f ≡ g = forms_are [] [] feed (heading (settings (thirteen r))) in
     let spelled : Spells text f = laws.written items feed (made_is_written seed) in
     elim (laws.verdict f (laws.sound text f spelled) (laws.symbols text f spelled)) [
-      | inl shaped ↦
-          let made : IsMade shaped.0 = shape_is_made (places_of f) f.end r (rows_are seed) shaped.0 (targets_are seed)
-          (subst (λ h. IsShape h shaped.0) same shaped.1) in (
-            shaped.0,
+      | inl (w, shape) ↦
+          let is = shape_is_made (places_of f) f.end r (rows_are seed) w (subst (λ h. IsShape h w) same shape) in
+          let (s, framed, only) = laws.frame w in
+          let alone = own (places_of f) r w is s framed (laws.same w s framed) in
+          let made : IsMade s = is_made (places_of f) r w is s framed (rows_are seed) (targets_are seed) in
+          let unbroken : IsUnbroken s = laws.unbroken s made in (
+            s,
             record {
+              written = w;
               spells = record {
                 forms = f;
                 spelled = subst (λ t. Spells t f) (sym (source_is seed)) spelled;
-                shape =
-                    shaped.1;
+                shape = shape;
               };
-              unbroken = laws.unbroken shaped.0 made;
+              kept = own_keeps w s alone laws.expansions unbroken;
+              expansion = alone.expansion;
+              unbroken = unbroken;
             },
             made,
           )

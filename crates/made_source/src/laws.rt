@@ -6,10 +6,13 @@ ghost use Rattle.mp_source.specs.Source.{IsSource};
 ghost use Rattle.program_maker.specs.Texts.{source_text};
 ghost use Rattle.made_program.specs.Made.{IsMade};
 
+use expansion_laws::laws::{counts, weighs};
+use expansion_rules::laws::uses_are_lawful;
 use form_reader::laws::spelled_is_sound;
 use form_text::laws::written_forms_are_spelled;
 use made_program::laws::made_programs_are_unbroken;
 use mp_syntax::laws::forms_verdict;
+use written_frame::laws::{one_frame, same_rules};
 
 /// The source of each number spells a made program, which breaks no rule.
 pub fn made_sources_are_sources()
@@ -19,6 +22,11 @@ pub fn made_sources_are_sources()
     written_forms_are_spelled();
     forms_verdict();
     made_programs_are_unbroken();
+    one_frame();
+    same_rules();
+    uses_are_lawful();
+    weighs();
+    counts();
 }
 
 /// The source of each number is short.

@@ -13,13 +13,13 @@ use Rattle.mp_shapes.specs.declared.table.Class.TheVariants as classes
 use Rattle.mp_shapes.specs.declared.table.Layout.{Layout}
 use Rattle.mp_shapes.specs.declared.table.Layout.TheVariants as layouts
 use Rattle.mp_shapes.specs.Layout.{word_of, is_symbol, layout}
-use Rattle.mp_program.specs.declared.program.ExprKind.{ExprKind}
-use Rattle.mp_program.specs.declared.program.ExprKind.TheVariants as exprs
 use Rattle.mp_program.specs.declared.program.FormKind.{FormKind}
 use Rattle.mp_program.specs.declared.program.FormKind.TheVariants as forms
 use Rattle.mp_program.specs.declared.program.Branch.{Branch}
-use Rattle.mp_program.specs.declared.program.Expr.{Expr}
 use Rattle.mp_program.specs.declared.program.Form.{Form}
+use Rattle.mp_written.specs.declared.program.ExprKind.{ExprKind}
+use Rattle.mp_written.specs.declared.program.ExprKind.TheVariants as exprs
+use Rattle.mp_written.specs.declared.program.Expr.{Expr}
 
 -- the value of a number
 abbrev pub number_of : Kind → ℕ
@@ -63,6 +63,8 @@ abbrev pub list_expr : Forms → (ℕ → ℕ) → List ℕ → Option Layout �
 list_expr f expr items (Some (layouts.Apply op)) = exprs.Apply op 0 (map expr (drop 1 items))
 list_expr f expr items (Some layouts.Bit) =
     exprs.Apply ops.Bit (number_at f (slice_index items 1)) (map expr (drop 2 items))
+list_expr f expr items (Some layouts.Use) =
+    let head = slice_index items 0 in exprs.Use (node f head).place (name_at f head) (map expr (drop 1 items))
 list_expr f expr items _ = exprs.Number 0
 
 abbrev pub symbol_expr : List ℕ → ExprKind

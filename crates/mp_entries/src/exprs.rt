@@ -4,12 +4,12 @@ ghost use Rattle.std.specs.Prelude.{◌≡◌, ◌<◌, ◌^◌, ◌++◌, ℕ, 
 ghost use Rattle.form_reader.specs.Sound.{IsSound};
 ghost use Rattle.mp_entries.specs.Entries.{expr_at, is_expr, list_expr, nodes_below, symbol_expr};
 
-use crate::nodes::{behind, item, items_at, node_at, number_at};
+use crate::nodes::{behind, item, items_at, name_at, node_at, number_at};
 use crate::ranks::is_expr;
 use form_reader::{Forms, Kind};
 use mp_base::{List, Name, Op};
-use mp_program::{Expr, ExprKind};
 use mp_shapes::{Class, Layout, shape_of};
+use mp_written::{Expr, ExprKind};
 use std::alloc::{AllocError, Global};
 
 /// Adds the indices of the entries of nodes.
@@ -69,6 +69,14 @@ fn list_expr(
             index: number_at(forms, item(items, 1)),
             args: entries(alloc, ranks, behind(items, 2))?,
         }),
+        Some(Layout::Use) => {
+            let head = item(items, 0);
+            Ok(ExprKind::Use {
+                at: node_at(forms, head).place,
+                name: name_at(alloc, forms, head)?,
+                args: entries(alloc, ranks, behind(items, 1))?,
+            })
+        }
         _ => Ok(ExprKind::Number(0)),
     }
 }

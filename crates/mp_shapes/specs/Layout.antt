@@ -1,6 +1,6 @@
 -- The table of shapes: the shape of a node that has to be of a class, or none where it has a defect of its own.
-use Rattle.std.specs.Prelude.{ℕ, ◌==◌, List, [], Bool, nat_le, true, false, cond, ◌&&◌, length, codes, Option, Some}
-use Rattle.std.specs.Prelude.{None, slice_index}
+use Rattle.std.specs.Prelude.{ℕ, ◌==◌, List, [], Bool, nat_le, true, false, cond, not, ◌&&◌, length, codes, Option}
+use Rattle.std.specs.Prelude.{Some, None, slice_index}
 use Rattle.std.specs.List.{list_all}
 use Rattle.std.specs.Str.{bytes_eq}
 use Rattle.mp_base.specs.declared.op.Op.{Op}
@@ -15,10 +15,10 @@ use Rattle.mp_shapes.specs.declared.table.Class.TheVariants.{Whole, Item, Elemen
 use Rattle.mp_shapes.specs.declared.table.Definition.{Definition}
 use Rattle.mp_shapes.specs.declared.table.Definition.TheVariants.{Power, Ground, Phia, Phib, Phic, Constant, Register}
 use Rattle.mp_shapes.specs.declared.table.Definition.TheVariants.{Flag, PortInput, PortOutput, PortInternal}
-use Rattle.mp_shapes.specs.declared.table.Definition.TheVariants.{SignalInput, SignalOutput, SignalInternal}
+use Rattle.mp_shapes.specs.declared.table.Definition.TheVariants.{SignalInput, SignalOutput, SignalInternal, Function}
 use Rattle.mp_shapes.specs.declared.table.Layout.{Layout}
 use Rattle.mp_shapes.specs.declared.table.Layout.TheVariants.{Leaf, Program, Def, Always, Process, Setq, Cond, Par, Go}
-use Rattle.mp_shapes.specs.declared.table.Layout.TheVariants.{Call, Return, Guarded, Apply, Bit}
+use Rattle.mp_shapes.specs.declared.table.Layout.TheVariants.{Call, Return, Guarded, Apply, Bit, Use}
 
 -- the bytes of a symbol, and none of another kind
 abbrev pub word_of : Kind → List ℕ
@@ -37,6 +37,11 @@ is_number _ = false
 abbrev pub is_pins : Forms → Kind → Bool
 is_pins f (Group items) = nat_le 1 (length items) && list_all (λ i. is_number (kind_at f i)) items
 is_pins f _ = false
+
+-- a list of symbols, at least one
+abbrev pub is_symbols : Forms → Kind → Bool
+is_symbols f (Group items) = nat_le 1 (length items) && list_all (λ i. is_symbol (kind_at f i)) items
+is_symbols f _ = false
 
 -- something where a test holds
 abbrev pub when : {A : Type 0} → Bool → A → Option A
@@ -75,14 +80,15 @@ four name what last = cond (is_symbol name)
 abbrev pub way : List ℕ → Definition → Definition → Option Definition
 way x inward outward = cond (bytes_eq x (codes "input")) (Some inward) (when (bytes_eq x (codes "output")) outward)
 
--- (def SYMBOL port input (NUMBER+)), (def SYMBOL signal input NUMBER), and the same with output
+-- (def SYMBOL port input (NUMBER+)), (def SYMBOL signal input NUMBER), and the same with output;
+-- (def SYMBOL function (SYMBOL+) EXPR), where what has to be an expression is examined on its own
 abbrev pub five : Forms → Kind → Kind → Kind → Kind → Option Definition
 five f name what named last = cond (is_symbol name)
     (cond (bytes_eq (word_of what) (codes "port"))
     (cond (is_pins f last) (way (word_of named) PortInput PortOutput) None)
     (cond (bytes_eq (word_of what) (codes "signal"))
     (cond (is_number last) (way (word_of named) SignalInput SignalOutput) None)
-    None))
+    (when (bytes_eq (word_of what) (codes "function") && is_symbols f named) Function)))
     None
 
 -- what a def with these items defines
@@ -163,14 +169,15 @@ takes Nor n = nat_le 2 n
 takes Nand n = nat_le 2 n
 takes _ n = n == 3
 
--- an operator in a list of this number of items
-abbrev pub applied : Option Op → ℕ → Option Layout
-applied (Some op) n = when (takes op n) (Apply op)
-applied None n = None
+-- an operator in a list of this number of items, or else a use of a function: its head is a symbol, and it has an operand
+abbrev pub applied : Option Op → List ℕ → ℕ → Option Layout
+applied (Some op) x n = when (takes op n) (Apply op)
+applied None x n = when (not (length x == 0) && nat_le 2 n) Use
 
--- an expression that is a list, by its head and the number of its items, the head included
+-- an expression that is a list, by the bytes of its head, none where it is no symbol, and the number of its items, the
+-- head included
 abbrev pub value_layout : List ℕ → ℕ → Option Layout
-value_layout x n = cond (bytes_eq x (codes "bit")) (when (n == 3) Bit) (applied (op_of x) n)
+value_layout x n = cond (bytes_eq x (codes "bit")) (when (n == 3) Bit) (applied (op_of x) x n)
 
 -- a list that isn't empty, by the bytes of its head and all its items; only a branch has no head
 abbrev pub list_layout : Forms → Class → List ℕ → List ℕ → Option Layout
@@ -211,7 +218,8 @@ behind_first j c d = cond (j == 0) None (cond (j == 1) (Some c) (Some d))
 abbrev pub behind_number : ℕ → Class → Option Class
 behind_number j c = cond (j == 0) None (cond (j == 1) (Some Word) (cond (j == 2) (Some Numeral) (Some c)))
 
--- what the item at an index has to be; a head, and the items of a definition, stand for nothing further
+-- what the item at an index has to be; a head, and the items of a definition but for the body of a function, stand for
+-- nothing further
 abbrev pub item_class : Layout → ℕ → Option Class
 item_class Program j = behind_number j Item
 item_class Process j = behind_number j Element
@@ -221,6 +229,8 @@ item_class Cond j = behind_head j Branch
 item_class Go j = behind_head j Word
 item_class Call j = behind_head j Word
 item_class (Apply op) j = behind_head j Value
+item_class Use j = behind_head j Value
+item_class (Def Function) j = cond (j == 4) (Some Value) None
 item_class Setq j = behind_first j Word Value
 item_class Bit j = behind_first j Numeral Value
 item_class Guarded j = cond (j == 0) (Some Value) (Some Action)

@@ -3,11 +3,12 @@
 ghost use Rattle.std.specs.Prelude.{◌≡◌, ◌<◌, ℕ, length, slice_index, All};
 ghost use Rattle.std.specs.List.{list_all};
 ghost use Rattle.form_reader.specs.Sound.{IsSound, kind_at, items_of};
-ghost use Rattle.mp_shapes.specs.Layout.{word_of, is_symbol, is_number, is_pins, supply_of, stored_of, three, four};
+ghost use Rattle.mp_shapes.specs.Layout.{word_of, is_symbol, is_number, is_pins, is_symbols, supply_of, stored_of};
+ghost use Rattle.mp_shapes.specs.Layout.{three, four};
 ghost use Rattle.mp_shapes.specs.Layout.{internal, way, five, definition, item_layout, form_layout, word_op};
 ghost use Rattle.mp_shapes.specs.Layout.{bit_op, op_of, takes, value_layout, list_layout, number_layout};
 ghost use Rattle.mp_shapes.specs.Layout.{symbol_layout, layout, when, behind_head, behind_first, behind_number};
-ghost use Rattle.mp_shapes.specs.Layout.{item_class};
+ghost use Rattle.mp_shapes.specs.Layout.{applied, item_class};
 
 use crate::table::{Class, Definition, Layout};
 use form_reader::{Forms, Kind};
@@ -72,6 +73,24 @@ fn is_pins(forms: &Forms, node: u32) -> bool
 {
     match kind_at(forms, node) {
         Kind::Group(items) => items.len() >= 1 && are_numbers(forms, items.as_slice()),
+        _ => false,
+    }
+}
+
+fn are_symbols(forms: &Forms, items: &[u32]) -> bool
+    requires { All (λ i. i < length forms.now.nodes) items.now }
+    ensures { result ≡ list_all (λ i. is_symbol (kind_at forms.now i)) items.now }
+{
+    items.iter().all(|&item| is_symbol(kind_at(forms, item)))
+}
+
+fn is_symbols(forms: &Forms, node: u32) -> bool
+    requires sound { IsSound forms.now }
+    requires inside { node < length forms.now.nodes }
+    ensures { result ≡ is_symbols forms.now (kind_at forms.now node) }
+{
+    match kind_at(forms, node) {
+        Kind::Group(items) => items.len() >= 1 && are_symbols(forms, items.as_slice()),
         _ => false,
     }
 }
@@ -160,28 +179,31 @@ fn way(word: &[u8], inward: Definition, outward: Definition) -> Option<Definitio
     }
 }
 
-fn five(forms: &Forms, name: &Kind, what: &Kind, named: &Kind, last: u32) -> Option<Definition>
+fn five(forms: &Forms, name: &Kind, what: &Kind, named: u32, last: u32) -> Option<Definition>
     requires sound { IsSound forms.now }
+    requires named { named < length forms.now.nodes }
     requires inside { last < length forms.now.nodes }
-    ensures { result ≡ five forms.now name.now what.now named.now (kind_at forms.now last) }
+    ensures { result ≡ five forms.now name.now what.now (kind_at forms.now named) (kind_at forms.now last) }
 {
     if !is_symbol(name) {
         return None;
     }
     let what = word_of(what);
-    let named = word_of(named);
+    let word = word_of(kind_at(forms, named));
     if what == b"port".as_slice() {
         if is_pins(forms, last) {
-            way(named, Definition::PortInput, Definition::PortOutput)
+            way(word, Definition::PortInput, Definition::PortOutput)
         } else {
             None
         }
     } else if what == b"signal".as_slice() {
         if is_number(kind_at(forms, last)) {
-            way(named, Definition::SignalInput, Definition::SignalOutput)
+            way(word, Definition::SignalInput, Definition::SignalOutput)
         } else {
             None
         }
+    } else if what == b"function".as_slice() && is_symbols(forms, named) {
+        Some(Definition::Function)
     } else {
         None
     }
@@ -206,7 +228,7 @@ fn definition(forms: &Forms, items: &[u32]) -> Option<Definition>
             forms,
             kind_at(forms, items[1]),
             kind_at(forms, items[2]),
-            kind_at(forms, items[3]),
+            items[3],
             items[4],
         )
     } else {
@@ -333,16 +355,22 @@ fn takes(op: Op, count: usize) -> bool
     }
 }
 
+fn applied(op: Option<Op>, head: &[u8], count: usize) -> Option<Layout>
+    ensures { result ≡ applied op head.now count }
+{
+    match op {
+        Some(op) => when(takes(op, count), Layout::Apply(op)),
+        None => when(head.len() != 0 && count >= 2, Layout::Use),
+    }
+}
+
 fn value_layout(head: &[u8], count: usize) -> Option<Layout>
     ensures { result ≡ value_layout head.now count }
 {
     if head == b"bit".as_slice() {
         return when(count == 3, Layout::Bit);
     }
-    match op_of(head) {
-        Some(op) => when(takes(op, count), Layout::Apply(op)),
-        None => None,
-    }
+    applied(op_of(head), head, count)
 }
 
 fn list_layout(forms: &Forms, class: Class, head: &[u8], items: &[u32]) -> Option<Layout>
@@ -447,7 +475,7 @@ pub fn item_class(layout: Layout, index: usize) -> Option<Class>
         Layout::Cond => behind_head(index, Class::Branch),
         Layout::Go => behind_head(index, Class::Word),
         Layout::Call => behind_head(index, Class::Word),
-        Layout::Apply(_) => behind_head(index, Class::Value),
+        Layout::Apply(_) | Layout::Use => behind_head(index, Class::Value),
         Layout::Setq => behind_first(index, Class::Word, Class::Value),
         Layout::Bit => behind_first(index, Class::Numeral, Class::Value),
         Layout::Guarded => Some(if index == 0 {
@@ -455,6 +483,7 @@ pub fn item_class(layout: Layout, index: usize) -> Option<Class>
         } else {
             Class::Action
         }),
+        Layout::Def(Definition::Function) if index == 4 => Some(Class::Value),
         Layout::Leaf | Layout::Def(_) | Layout::Return => None,
     }
 }

@@ -40,6 +40,7 @@ pub enum Definition {
     SignalInput,
     SignalOutput,
     SignalInternal,
+    Function,
 }
 
 /// A shape of the table.
@@ -49,7 +50,7 @@ pub enum Layout {
     Leaf,
     /// `(program SYMBOL NUMBER ITEM*)`
     Program,
-    /// A `def`, whose items stand for nothing further.
+    /// A `def`, whose items stand for nothing further, but for the body of a function.
     Def(Definition),
     /// `(always FORM+)`
     Always,
@@ -73,4 +74,6 @@ pub enum Layout {
     Apply(Op),
     /// `(bit NUMBER EXPR)`
     Bit,
+    /// `(SYMBOL EXPR+)`, where the symbol is no operator: a use of a function.
+    Use,
 }

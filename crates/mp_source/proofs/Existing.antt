@@ -8,10 +8,13 @@ use Rattle.form_reader.specs.Text.{place_at}
 use Rattle.form_reader.specs.Sound.{IsSound, HasSymbols}
 use Rattle.form_reader.specs.Spelling.{Spells}
 use Rattle.form_reader.specs.Rules.{IsFirst as IsFirstOfText}
-use Rattle.mp_program.specs.declared.program.Program.{Program}
+use Rattle.mp_program.specs.declared.program.Program as plain
+use Rattle.mp_written.specs.declared.program.Program.{Program}
+use Rattle.mp_written.specs.Expansion.{IsExpansion}
 use Rattle.mp_syntax.specs.Shape.{IsShape, IsFirst as IsFirstOfForms}
-use Rattle.mp_rules.specs.Breaking.{Breaks, IsUnbroken, IsFirst as IsFirstOfProgram}
-use Rattle.mp_rules.specs.Places.{HasPlace}
+use Rattle.mp_rules.specs.Breaking as plain_breaking
+use Rattle.written_rules.specs.Breaking.{Breaks, IsUnbroken, IsFirst as IsFirstOfProgram}
+use Rattle.written_verdict.specs.Places.{HasPlace}
 use Rattle.mp_source.specs.Source.{OfSource, broken_rule}
 use Rattle.mp_source.proofs.Judged.{of_text, of_forms, of_program}
 
@@ -23,6 +26,7 @@ pub record Stages : Type 0 where
   pub forms : (f : Forms) → IsSound f → HasSymbols f → ((p : Program) × IsShape f p)
       ⊎ ((k : ℕ) × (at : Place) × IsFirstOfForms f k at)
   pub programs : (p : Program) → IsUnbroken p ⊎ ((k : ℕ) × (at : Place) × IsFirstOfProgram p k at)
+  pub expanded : (w : Program) → IsUnbroken w → (p : plain.Program) × IsExpansion w p × plain_breaking.IsUnbroken p
   pub placed : (p : Program) (k : ℕ) (at : Place) → Breaks p k at → HasPlace p at
 
 module _ (laws : Stages) (text : List ℕ) where
@@ -32,7 +36,19 @@ module _ (laws : Stages) (text : List ℕ) where
   of_a_program : (f : Forms) (p : Program) → Spells text f → IsSound f → IsShape f p → IsUnbroken p
       ⊎ ((k : ℕ) × (at : Place) × IsFirstOfProgram p k at) → Verdict
   of_a_program f p spells sound shape (inl unbroken) =
-      (None, (p, record { spells = record { forms = f; spelled = spells; shape = shape }; unbroken = unbroken }))
+      let (q, expansion, kept) = laws.expanded p unbroken in (
+        None,
+        (
+          q,
+          record {
+            written = p;
+            spells = record { forms = f; spelled = spells; shape = shape };
+            kept = unbroken;
+            expansion = expansion;
+            unbroken = kept;
+          },
+        ),
+      )
   of_a_program f p spells sound shape (inr (k, at, first)) = (
     Some (broken_rule k at),
     of_program (Unit {0}) text f p spells sound shape laws.placed

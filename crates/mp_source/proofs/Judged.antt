@@ -15,10 +15,10 @@ use Rattle.form_reader.specs.Spelling.{Spells}
 use Rattle.form_reader.specs.Rules.{RefusesFirst as RefusesText}
 use Rattle.mp_shapes.specs.declared.table.Class.{Class}
 use Rattle.mp_shapes.specs.Standing.{StandsFor, root, item, E10}
-use Rattle.mp_program.specs.declared.program.Program.{Program}
+use Rattle.mp_written.specs.declared.program.Program.{Program}
 use Rattle.mp_syntax.specs.Shape.{IsShape, E11, IsFirst as IsFirstOfForms}
-use Rattle.mp_rules.specs.Breaking.{Breaks, IsFirst as IsFirstOfProgram, RefusesFirst as RefusesProgram}
-use Rattle.mp_rules.specs.Places.{HasPlace}
+use Rattle.written_rules.specs.Breaking.{Breaks, IsFirst as IsFirstOfProgram, RefusesFirst as RefusesProgram}
+use Rattle.written_verdict.specs.Places.{HasPlace}
 use Rattle.mp_source.specs.Source.{IsFirstRule, OfSource}
 use Rattle.mp_source.proofs.Placed.{node_placed, item_within, place_is}
 use Rattle.mp_source.proofs.Standing.{place_of_node}

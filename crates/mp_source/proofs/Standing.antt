@@ -1,11 +1,13 @@
 -- The places in a program are those of nodes.
 use Rattle.std.proofs.Common.{◌≡◌, ℕ, zero, suc, ◌+◌, ◌<◌, List, [], ◌∷◌, Bool, true, false, cond, refl, sym, ◌∙◌, ap}
-use Rattle.std.proofs.Common.{subst, length, arith, drop, Option, Some, None}
+use Rattle.std.proofs.Common.{subst, length, arith, drop, Option, Some, None, map}
 use Rattle.std.specs.Prelude.{slice_index}
 use Rattle.std.specs.List.{range_with_len}
 use Rattle.std.proofs.lemmas.Option.{none-some, same_Some, get_or_from_slice_get}
 use Rattle.mp_base.specs.declared.refusal.Place.{Place}
 use Rattle.form_reader.specs.declared.forms.Forms.{Forms}
+use Rattle.form_reader.specs.declared.forms.Kind.{Kind}
+use Rattle.form_reader.specs.declared.forms.Kind.TheVariants as kinds
 use Rattle.form_reader.specs.Sound.{node, kind_at, items_of, IsSound}
 use Rattle.mp_shapes.specs.declared.table.Class.TheVariants as classes
 use Rattle.mp_shapes.specs.declared.table.Definition.{Definition}
@@ -15,18 +17,21 @@ use Rattle.mp_shapes.specs.declared.table.Layout.TheVariants as layouts
 use Rattle.mp_shapes.specs.Layout.{is_symbol, layout}
 use Rattle.mp_program.specs.declared.program.FormKind.TheVariants as forms
 use Rattle.mp_program.specs.declared.program.Pin.{Pin}
-use Rattle.mp_program.specs.declared.program.Def.{Def}
-use Rattle.mp_program.specs.declared.program.Expr.{Expr}
+use Rattle.mp_written.specs.declared.program.ExprKind.TheVariants as exprs
+use Rattle.mp_written.specs.declared.program.What.TheVariants as whats
+use Rattle.mp_written.specs.declared.program.Arg.{Arg}
+use Rattle.mp_written.specs.declared.program.Def.{Def}
+use Rattle.mp_written.specs.declared.program.Expr.{Expr}
 use Rattle.mp_program.specs.declared.program.Form.{Form}
 use Rattle.mp_program.specs.declared.program.Label.{Label}
 use Rattle.mp_program.specs.declared.program.Process.{Process}
-use Rattle.mp_program.specs.declared.program.Program.{Program}
+use Rattle.mp_written.specs.declared.program.Program.{Program}
 use Rattle.mp_entries.specs.Entries.{name_at, form_kind, form_at, expr_at, nodes_below, expr_index, form_index, is_expr}
-use Rattle.mp_entries.specs.Entries.{is_form}
+use Rattle.mp_entries.specs.Entries.{is_form, expr_kind, list_expr}
 use Rattle.mp_syntax.specs.Shape.{IsShape, pin_at, pin_nodes, def_of, def_in, def_at, labels_from, process_of}
-use Rattle.mp_syntax.specs.Shape.{process_in, process_at}
+use Rattle.mp_syntax.specs.Shape.{process_in, process_at, what_of, arg_at}
 use Rattle.mp_base.specs.Entries.{IsAt}
-use Rattle.mp_rules.specs.Places.{HasPlace}
+use Rattle.written_verdict.specs.Places.{HasPlace}
 use Rattle.mp_base.proofs.Entries.{get_map, get_filter, within}
 use Rattle.mp_source.proofs.Members.{at_filter_map, at_drop, at_range}
 use Rattle.mp_source.proofs.Placed.{item_within}
@@ -51,23 +56,24 @@ only : (a k n : ℕ) → IsAt (a ∷ []) k n → n ≡ a
 only a zero n at = sym (same_Some a n at)
 only a (suc k) n at = absurd (none-some n at)
 
-def_found : (f : Forms) (m : ℕ) (l : Option Layout) (x : Def) → def_in f m l ≡ Some x
-    → (d : Definition) × (x ≡ def_of f m (items_of (kind_at f m)) d)
-def_found f m (Some (layouts.Def d)) x e = (d, cc)
-def_found f m (Some layouts.Leaf) x e = cc
-def_found f m (Some layouts.Program) x e = cc
-def_found f m (Some layouts.Always) x e = cc
-def_found f m (Some layouts.Process) x e = cc
-def_found f m (Some layouts.Setq) x e = cc
-def_found f m (Some layouts.Cond) x e = cc
-def_found f m (Some layouts.Par) x e = cc
-def_found f m (Some layouts.Go) x e = cc
-def_found f m (Some layouts.Call) x e = cc
-def_found f m (Some layouts.Return) x e = cc
-def_found f m (Some layouts.Guarded) x e = cc
-def_found f m (Some layouts.Bit) x e = cc
-def_found f m (Some (layouts.Apply op)) x e = cc
-def_found f m None x e = cc
+def_found : (f : Forms) (expr : ℕ → ℕ) (m : ℕ) (l : Option Layout) (x : Def) → def_in f expr m l ≡ Some x
+    → (d : Definition) × (x ≡ def_of f expr m (items_of (kind_at f m)) d)
+def_found f expr m (Some (layouts.Def d)) x e = (d, cc)
+def_found f expr m (Some layouts.Leaf) x e = cc
+def_found f expr m (Some layouts.Program) x e = cc
+def_found f expr m (Some layouts.Always) x e = cc
+def_found f expr m (Some layouts.Process) x e = cc
+def_found f expr m (Some layouts.Setq) x e = cc
+def_found f expr m (Some layouts.Cond) x e = cc
+def_found f expr m (Some layouts.Par) x e = cc
+def_found f expr m (Some layouts.Go) x e = cc
+def_found f expr m (Some layouts.Call) x e = cc
+def_found f expr m (Some layouts.Return) x e = cc
+def_found f expr m (Some layouts.Guarded) x e = cc
+def_found f expr m (Some layouts.Bit) x e = cc
+def_found f expr m (Some layouts.Use) x e = cc
+def_found f expr m (Some (layouts.Apply op)) x e = cc
+def_found f expr m None x e = cc
 
 process_found : (f : Forms) (form : ℕ → ℕ) (m : ℕ) (l : Option Layout) (q : Process) → process_in f form m l ≡ Some q
     → q ≡ process_of f form m (items_of (kind_at f m))
@@ -83,6 +89,7 @@ process_found f form m (Some layouts.Call) q e = cc
 process_found f form m (Some layouts.Return) q e = cc
 process_found f form m (Some layouts.Guarded) q e = cc
 process_found f form m (Some layouts.Bit) q e = cc
+process_found f form m (Some layouts.Use) q e = cc
 process_found f form m (Some (layouts.Def d)) q e = cc
 process_found f form m (Some (layouts.Apply op)) q e = cc
 process_found f form m None q e = cc
@@ -102,9 +109,61 @@ target_found f expr form items (Some layouts.Call) name at v e = cc
 target_found f expr form items (Some layouts.Return) name at v e = cc
 target_found f expr form items (Some layouts.Guarded) name at v e = cc
 target_found f expr form items (Some layouts.Bit) name at v e = cc
+target_found f expr form items (Some layouts.Use) name at v e = cc
 target_found f expr form items (Some (layouts.Def d)) name at v e = cc
 target_found f expr form items (Some (layouts.Apply op)) name at v e = cc
 target_found f expr form items None name at v e = cc
+
+args_found : (f : Forms) (expr : ℕ → ℕ) (items : List ℕ) (d : Definition) (args : List Arg) (body : ℕ)
+    → what_of f expr items d ≡ whats.Function args body
+    → args ≡ map (arg_at f) (items_of (kind_at f (slice_index items 3)))
+args_found f expr items definitions.Function args body e = cc
+args_found f expr items definitions.Power args body e = cc
+args_found f expr items definitions.Ground args body e = cc
+args_found f expr items definitions.Phia args body e = cc
+args_found f expr items definitions.Phib args body e = cc
+args_found f expr items definitions.Phic args body e = cc
+args_found f expr items definitions.Constant args body e = cc
+args_found f expr items definitions.Register args body e = cc
+args_found f expr items definitions.Flag args body e = cc
+args_found f expr items definitions.PortInput args body e = cc
+args_found f expr items definitions.PortOutput args body e = cc
+args_found f expr items definitions.PortInternal args body e = cc
+args_found f expr items definitions.SignalInput args body e = cc
+args_found f expr items definitions.SignalOutput args body e = cc
+args_found f expr items definitions.SignalInternal args body e = cc
+
+head_in_list : (f : Forms) (expr : ℕ → ℕ) (items : List ℕ) (l : Option Layout) (at : Place) (name os : List ℕ)
+    → list_expr f expr items l ≡ exprs.Use at name os → at ≡ (node f (slice_index items 0)).place
+head_in_list f expr items (Some layouts.Use) at name os e = cc
+head_in_list f expr items (Some layouts.Leaf) at name os e = cc
+head_in_list f expr items (Some layouts.Program) at name os e = cc
+head_in_list f expr items (Some layouts.Always) at name os e = cc
+head_in_list f expr items (Some layouts.Process) at name os e = cc
+head_in_list f expr items (Some layouts.Setq) at name os e = cc
+head_in_list f expr items (Some layouts.Cond) at name os e = cc
+head_in_list f expr items (Some layouts.Par) at name os e = cc
+head_in_list f expr items (Some layouts.Go) at name os e = cc
+head_in_list f expr items (Some layouts.Call) at name os e = cc
+head_in_list f expr items (Some layouts.Return) at name os e = cc
+head_in_list f expr items (Some layouts.Guarded) at name os e = cc
+head_in_list f expr items (Some layouts.Bit) at name os e = cc
+head_in_list f expr items (Some (layouts.Def d)) at name os e = cc
+head_in_list f expr items (Some (layouts.Apply op)) at name os e = cc
+head_in_list f expr items None at name os e = cc
+
+no_use : (a b : Bool) (x : List ℕ) (at : Place) (name os : List ℕ)
+    → cond a exprs.True (cond b exprs.False (exprs.Named x)) ≡ exprs.Use at name os → ⊥
+no_use true b x at name os e = absurd (cc)
+no_use false true x at name os e = absurd (cc)
+no_use false false x at name os e = absurd (cc)
+
+head_found : (f : Forms) (expr : ℕ → ℕ) (k : Kind) (at : Place) (name os : List ℕ)
+    → expr_kind f expr k ≡ exprs.Use at name os → at ≡ (node f (slice_index (items_of k) 0)).place
+head_found f expr (kinds.Number v) at name os e = cc
+head_found f expr (kinds.Symbol x) at name os e = absurd (no_use _ _ x at name os e)
+head_found f expr (kinds.Group items) at name os e =
+    head_in_list f expr items (layout f classes.Value (kinds.Group items)) at name os e
 
 pin_within : (f : Forms) (m k n : ℕ) (d : Definition) → IsSound f → m < length f.nodes
     → IsAt (pin_nodes f (items_of (kind_at f m)) d) k n → n < length f.nodes
@@ -138,6 +197,7 @@ pin_within f m k n definitions.Register sound lt at = absurd (none-some n at)
 pin_within f m k n definitions.Flag sound lt at = absurd (none-some n at)
 pin_within f m k n definitions.PortInternal sound lt at = absurd (none-some n at)
 pin_within f m k n definitions.SignalInternal sound lt at = absurd (none-some n at)
+pin_within f m k n definitions.Function sound lt at = absurd (none-some n at)
 
 label_found : (f : Forms) (before : ℕ) (items : List ℕ) (k : ℕ) (x : Label) → IsAt (labels_from f before items) k x
     → (j i : ℕ) × IsAt items j i × (x.place ≡ (node f i).place)
@@ -166,22 +226,24 @@ root_within f p sound shape =
     let size : length f.roots ≡ 1 = ap length shape.one in
     subst (λ rs. slice_index rs 0 < length f.nodes) shape.one (sound.roots 0 (omega (arith, size)))
 
-def_node : (f : Forms) (p : Program) → IsSound f → IsShape f p → (d : ℕ) (x : Def) → IsAt p.defs d x
-    → (m : ℕ) × (m < length f.nodes) × (s : Definition) × (x ≡ def_of f m (items_of (kind_at f m)) s)
+def_node : (f : Forms) (p : Program) → IsSound f → (shape : IsShape f p) → (d : ℕ) (x : Def) → IsAt p.defs d x
+    → (m : ℕ) × (m < length f.nodes) × (s : Definition)
+    × (x ≡ def_of f (expr_index f shape.classes) m (items_of (kind_at f m)) s)
 def_node f p sound shape d x there =
+    let expr = expr_index f shape.classes in
     let found =
-    at_filter_map (def_at f) (drop 3 (items_of (kind_at f shape.root))) d x
+    at_filter_map (def_at f expr) (drop 3 (items_of (kind_at f shape.root))) d x
     (subst (λ ds. IsAt ds d x) shape.defs there) in
-    let is = def_found f found.1 (layout f classes.Item (kind_at f found.1)) x found.3 in
+    let is = def_found f expr found.1 (layout f classes.Item (kind_at f found.1)) x found.3 in
     (found.1, dropped_within f shape.root 3 found.0 found.1 sound (root_within f p sound shape) found.2, is.0, is.1)
 
 expr_node : (f : Forms) (p : Program) (shape : IsShape f p) → (e : ℕ) (x : Expr) → IsAt p.exprs e x
-    → IsNodePlace f x.place
+    → (n : ℕ) × (n < length f.nodes) × (x ≡ expr_at f (expr_index f shape.classes) n)
 expr_node f p shape e x there =
     let found =
     get_map (expr_at f (expr_index f shape.classes)) (nodes_below (is_expr shape.classes) (length f.nodes)) e x
     (subst (λ xs. IsAt xs e x) shape.exprs there) in
-    (found.0, below_within (is_expr shape.classes) (length f.nodes) e found.0 found.1, ap Expr.place (sym found.2))
+    (found.0, below_within (is_expr shape.classes) (length f.nodes) e found.0 found.1, sym found.2)
 
 form_node : (f : Forms) (p : Program) (shape : IsShape f p) → (k : ℕ) (x : Form) → IsAt p.forms k x
     → (n : ℕ) × (n < length f.nodes) × (x ≡ form_at f (expr_index f shape.classes) (form_index f shape.classes) n)
@@ -216,7 +278,26 @@ place_of_node f p sound shape at (HasPlace.pin d k x y there found) =
     get_map (pin_at f) (pin_nodes f (items_of (kind_at f def.0)) def.2) k y
     (subst (λ (z : Def). IsAt z.pins k y) def.3 found) in
     (pin.0, pin_within f def.0 k pin.0 def.2 sound def.1 pin.1, ap Pin.place (sym pin.2))
-place_of_node f p sound shape at (HasPlace.expression e x there) = expr_node f p shape e x there
+place_of_node f p sound shape at (HasPlace.argument d k x args body a there what found) =
+    let def = def_node f p sound shape d x there in
+    let expr = expr_index f shape.classes in
+    let items = items_of (kind_at f def.0) in
+    let same = args_found f expr items def.2 args body (sym (ap Def.what def.3) ∙ what) in
+    let arg =
+    get_map (arg_at f) (items_of (kind_at f (slice_index items 3))) k a
+    (subst (λ (xs : List Arg). IsAt xs k a) same found) in (
+      arg.0,
+      dropped_within f (slice_index items 3) 0 k arg.0 sound (item_within f def.0 3 sound def.1) arg.1,
+      ap Arg.place (sym arg.2),
+    )
+place_of_node f p sound shape at (HasPlace.expression e x there) = let found = expr_node f p shape e x there in
+    (found.0, found.1, ap Expr.place found.2)
+place_of_node f p sound shape _ (HasPlace.head e x at name os there kind) =
+    let found = expr_node f p shape e x there in (
+      slice_index (items_of (kind_at f found.0)) 0,
+      item_within f found.0 0 sound found.1,
+      head_found f (expr_index f shape.classes) (kind_at f found.0) at name os (sym (ap Expr.kind found.2) ∙ kind),
+    )
 place_of_node f p sound shape at (HasPlace.form k x there) = let found = form_node f p shape k x there in
     (found.0, found.1, ap Form.place found.2)
 place_of_node f p sound shape _ (HasPlace.target k x name at v there kind) =

@@ -9,9 +9,11 @@ use Rattle.form_reader.specs.Sound.{node, kind_at, items_of}
 use Rattle.form_reader.specs.Spelling.{Spells}
 use Rattle.form_reader.specs.Rules.{Breaks as BreaksText, IsFirst as IsFirstOfText}
 use Rattle.mp_shapes.specs.Standing.{E10}
-use Rattle.mp_program.specs.declared.program.Program.{Program}
+use Rattle.mp_program.specs.declared.program.Program as plain
+use Rattle.mp_written.specs.declared.program.Program.{Program}
+use Rattle.mp_written.specs.Expansion.{IsExpansion}
 use Rattle.mp_syntax.specs.Shape.{IsShape, E11, IsFirst as IsFirstOfForms}
-use Rattle.mp_rules.specs.Breaking.{IsFirst as IsFirstOfProgram}
+use Rattle.written_rules.specs.Breaking.{IsFirst as IsFirstOfProgram}
 use Rattle.mp_source.specs.Source.{IsSpelled, IsSource, IsFirstRule, broken_rule, OfSource}
 
 -- the laws of the crates below
@@ -25,11 +27,19 @@ pub record Laws : Type 0 where
   pub first_of_program : (p : Program) (k l : ℕ) (at there : Place) → IsFirstOfProgram p k at
       → IsFirstOfProgram p l there → (k ≡ l) × (at.offset ≡ there.offset)
 
-pub one_source : ((text : List ℕ) (f g : Forms) → Spells text f → Spells text g → f ≡ g)
+one_written : ((text : List ℕ) (f g : Forms) → Spells text f → Spells text g → f ≡ g)
     → ((f : Forms) (p q : Program) → IsShape f p → IsShape f q → p ≡ q)
     → (text : List ℕ) (p q : Program) → IsSpelled text p → IsSpelled text q → p ≡ q
-one_source spelling program text p q a b =
+one_written spelling program text p q a b =
     program b.forms p q (subst (λ f. IsShape f p) (spelling text a.forms b.forms a.spelled b.spelled) a.shape) b.shape
+
+pub one_source : ((text : List ℕ) (f g : Forms) → Spells text f → Spells text g → f ≡ g)
+    → ((f : Forms) (p q : Program) → IsShape f p → IsShape f q → p ≡ q)
+    → ((w : Program) (p q : plain.Program) → IsExpansion w p → IsExpansion w q → p ≡ q)
+    → (text : List ℕ) (p q : plain.Program) → IsSource text p → IsSource text q → p ≡ q
+one_source spelling program expansion text p q a b =
+    let same = one_written spelling program text a.written b.written a.spells b.spells in
+    expansion b.written p q (subst (λ w. IsExpansion w p) same a.expansion) b.expansion
 
 -- the rule that forms break first is broken
 of_forms : (f : Forms) (k : ℕ) (at : Place) → IsFirstOfForms f k at → E10 f at ⊎ E11 f at
@@ -87,20 +97,20 @@ same_rule laws text k l at there a b = both a.first b.first
         absurd (no_forms laws text f spells.forms p l there other spells.spelled spells.shape y)
     both (inr (inr (p, spells, x))) (inr (inr (q, other, y))) =
         laws.first_of_program q k l at there
-        (subst (λ r. IsFirstOfProgram r k at) (one_source laws.one_spelling laws.one_program text p q spells other) x) y
+        (subst (λ r. IsFirstOfProgram r k at) (one_written laws.one_spelling laws.one_program text p q spells other) x) y
 
-none_first : Laws → (text : List ℕ) (p : Program) (k : ℕ) (at : Place) → IsSource text p → IsFirstRule text k at → ⊥
+none_first : Laws → (text : List ℕ) (p : plain.Program) (k : ℕ) (at : Place) → IsSource text p → IsFirstRule text k at → ⊥
 none_first laws text p k at source rule = by rule.first
   where
     by : IsFirstOfText text k at.offset ⊎ ((f : Forms) × Spells text f × IsFirstOfForms f k at)
         ⊎ ((q : Program) × IsSpelled text q × IsFirstOfProgram q k at) → ⊥
     by (inl x) = no_text laws text source.spells.forms k at source.spells.spelled x
     by (inr (inl (f, spells, x))) =
-        no_forms laws text f source.spells.forms p k at spells source.spells.spelled source.spells.shape x
+        no_forms laws text f source.spells.forms source.written k at spells source.spells.spelled source.spells.shape x
     by (inr (inr (q, spells, x))) =
-        source.unbroken k at
+        source.kept k at
         (subst (λ r. IsFirstOfProgram r k at)
-        (one_source laws.one_spelling laws.one_program text q p spells source.spells) x).broken
+        (one_written laws.one_spelling laws.one_program text q source.written spells source.spells) x).broken
 
 pub one_verdict : Laws → (text : List ℕ) (a b : Option Broken) → OfSource text a → OfSource text b → a ≡ b
 one_verdict laws text None None x y = refl

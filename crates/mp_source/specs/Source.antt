@@ -8,23 +8,30 @@ use Rattle.form_reader.specs.declared.forms.Forms.{Forms}
 use Rattle.form_reader.specs.Text.{place_at}
 use Rattle.form_reader.specs.Spelling.{Spells}
 use Rattle.form_reader.specs.Rules.{IsFirst as IsFirstOfText}
-use Rattle.mp_program.specs.declared.program.Program.{Program}
+use Rattle.mp_program.specs.declared.program.Program as plain
+use Rattle.mp_written.specs.declared.program.Program.{Program}
+use Rattle.mp_written.specs.Expansion.{IsExpansion}
 use Rattle.mp_syntax.specs.Shape.{IsShape, IsFirst as IsFirstOfForms}
-use Rattle.mp_rules.specs.Breaking.{IsUnbroken, IsFirst as IsFirstOfProgram}
+use Rattle.mp_rules.specs.Breaking as plain_breaking
+use Rattle.written_rules.specs.Breaking.{IsUnbroken, IsFirst as IsFirstOfProgram}
 
--- the text spells this program
-pub record IsSpelled (text : List ℕ) (program : Program) : Type 0 where
+-- the text spells this program, as it is written
+pub record IsSpelled (text : List ℕ) (written : Program) : Type 0 where
   pub forms : Forms
   pub spelled : Spells text forms
-  pub shape : IsShape forms program
+  pub shape : IsShape forms written
 
--- the text spells this program, which breaks no rule
-pub record IsSource (text : List ℕ) (program : Program) : Type 0 where
-  pub spells : IsSpelled text program
-  pub unbroken : IsUnbroken program
+-- The text spells a program that breaks no rule as it is written. This is its expansion, which has no functions and breaks
+-- no rule either.
+pub record IsSource (text : List ℕ) (program : plain.Program) : Type 0 where
+  pub written : Program
+  pub spells : IsSpelled text written
+  pub kept : IsUnbroken written
+  pub expansion : IsExpansion written program
+  pub unbroken : plain_breaking.IsUnbroken program
 
 -- The first rule, by its number and place: of the text (E1 to E5); or of the forms that it spells (E10, E11); or of the
--- program whose shape these have (E20 to E45).
+-- program whose shape these have, as it is written (E20 to E45).
 pub record IsFirstRule (text : List ℕ) (k : ℕ) (at : Place) : Type 0 where
   pub place : at ≡ place_at text at.offset
   pub first : IsFirstOfText text k at.offset
@@ -37,5 +44,5 @@ broken_rule k at = record { rule = record { family = E; number = k }; spot = At 
 
 -- no rule is broken, or this is the first one that is
 abbrev pub OfSource : List ℕ → Option Broken → Type 0
-OfSource text None = (program : Program) × IsSource text program
+OfSource text None = (program : plain.Program) × IsSource text program
 OfSource text (Some broken) = (k : ℕ) × (at : Place) × IsFirstRule text k at × (broken ≡ broken_rule k at)

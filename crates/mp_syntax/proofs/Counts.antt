@@ -1,6 +1,6 @@
 -- How many items a list of each shape has, and what may be the name of a definition.
-use Rattle.std.proofs.Common.{◌≡◌, ◌≢◌, ℕ, ◌-◌, ◌<◌, ◌≤◌, Bool, true, false, not, cond, List, ◌∷◌}
-use Rattle.std.proofs.Common.{refl, ap, subst, length, arith, Option, Some, None, slice_index, ◌&&◌, ◌||◌}
+use Rattle.std.proofs.Common.{◌≡◌, ◌≢◌, ℕ, ◌-◌, ◌<◌, ◌≤◌, Bool, true, false, not, cond, List, [], ◌∷◌}
+use Rattle.std.proofs.Common.{refl, sym, ◌∙◌, ap, subst, length, arith, Option, Some, None, slice_index, ◌&&◌, ◌||◌}
 use Rattle.std.proofs.Common.{nat_lt, nat_le, ◌==◌, codes}
 use Rattle.std.specs.Str.{bytes_eq}
 use Rattle.std.proofs.lemmas.Bool.{and_parts, lt-ltb, eqb-true, eqb-false, eq-eqb, leb-true, ne_eqb}
@@ -16,12 +16,13 @@ use Rattle.mp_shapes.specs.declared.table.Definition.{Definition}
 use Rattle.mp_shapes.specs.declared.table.Definition.TheVariants as definitions
 use Rattle.mp_shapes.specs.declared.table.Layout.{Layout}
 use Rattle.mp_shapes.specs.declared.table.Layout.TheVariants.{Program, Always, Process, Setq, Cond, Par, Go}
-use Rattle.mp_shapes.specs.declared.table.Layout.TheVariants.{Call, Return, Guarded, Apply, Bit}
+use Rattle.mp_shapes.specs.declared.table.Layout.TheVariants.{Call, Return, Guarded, Apply, Bit, Use}
 use Rattle.mp_shapes.specs.Layout as shapes
 use Rattle.mp_shapes.specs.Layout.{layout, when, word_of}
 use Rattle.mp_base.specs.Apply.{takes}
 use Rattle.mp_program.specs.Fits as fits
-use Rattle.mp_program.specs.Names.{is_supply}
+use Rattle.mp_written.specs.declared.program.What.{What}
+use Rattle.mp_written.specs.Kinds.{is_supply}
 use Rattle.mp_syntax.specs.Shape.{what_of}
 
 -- the number of items, the head included
@@ -34,6 +35,7 @@ Counts n (Some Go) = n ≡ 2
 Counts n (Some Call) = n ≡ 2
 Counts n (Some Guarded) = 0 < n
 Counts n (Some (Apply op)) = takes op (n - 1) ≡ true
+Counts n (Some Use) = 2 ≤ n
 Counts n _ = Unit {0}
 
 pub record HasCounts (n : ℕ) (shape : Option Layout) : Type 0 where
@@ -156,8 +158,10 @@ value_counts : (x : List ℕ) (n : ℕ) → HasCounts n (shapes.value_layout x n
 value_counts x n =
     step n (bytes_eq x (codes "bit")) (n == 3) Bit _ (λ h. eqb-true n 3 h) (by_op (shapes.op_of x) (op_other x))
   where
-    by_op : (o : Option Op) → IsOther o → HasCounts n (shapes.applied o n)
-    by_op None h = none n
+    by_op : (o : Option Op) → IsOther o → HasCounts n (shapes.applied o x n)
+    by_op None h =
+        last n (not (length x == 0) && nat_le 2 n) Use
+        (λ e. leb-true 2 n (and_parts (not (length x == 0)) (nat_le 2 n) e).1)
     by_op (Some o) h = last n (shapes.takes o n) (Apply o) (operands o n h.other)
 
 group_counts : (f : Forms) (c : Class) (items : List ℕ) → 0 < length items
@@ -208,98 +212,134 @@ shaped f c i is =
     let e : (length (i ∷ is) == 0) ≡ false = ne_eqb (length (i ∷ is)) 0 (λ h. omega (arith, h)) in
     ap (λ b. cond b None (shapes.list_layout f c (word_of (kind_at f i)) (i ∷ is))) e
 
--- whether the name of a definition fits it, where the item behind the head has this kind
-abbrev NameFits : Forms → List ℕ → Kind → Definition → Type 0
-NameFits f items k d =
-    ((is_supply (what_of f items d) && (length (word_of k) == 0))
-    || (not (is_supply (what_of f items d)) && fits.is_symbol (word_of k))) ≡ true
+-- the name of a definition fits it, where the item behind the head has this kind; and a function has five items, of
+-- which one is a list of symbols
+abbrev pub NameFits : Kind → What → Type 0
+NameFits k what =
+    ((is_supply what && (length (word_of k) == 0)) || (not (is_supply what) && fits.is_symbol (word_of k))) ≡ true
 
-pub record NamesFit (f : Forms) (items : List ℕ) (k : Kind) (o : Option Definition) : Type 0 where
-  pub each : (d : Definition) → o ≡ Some d → NameFits f items k d
+abbrev pub FunctionFits : Forms → List ℕ → Definition → Type 0
+FunctionFits f items definitions.Function =
+    (length items ≡ 5) × (shapes.is_symbols f (kind_at f (slice_index items 3)) ≡ true)
+FunctionFits f items _ = Unit {0}
 
-pick : (f : Forms) (items : List ℕ) (k : Kind) (b : Bool) (o rest : Option Definition) → NamesFit f items k o
-    → NamesFit f items k rest → NamesFit f items k (cond b o rest)
-pick f items k true o rest here later = here
-pick f items k false o rest here later = later
+abbrev pub DefinitionFits : Forms → (ℕ → ℕ) → List ℕ → Kind → Definition → Type 0
+DefinitionFits f expr items k d = NameFits k (what_of f expr items d) × FunctionFits f items d
 
-it : (f : Forms) (items : List ℕ) (k : Kind) (d : Definition) → NameFits f items k d → NamesFit f items k (Some d)
-it f items k d h =
-    record {
-      each = λ q e. let same : d ≡ q = cc in let P : Definition → Type 0 = λ x. NameFits f items k x in
-          subst P same h;
-    }
+pub record AllFit (P : Definition → Type 0) (o : Option Definition) : Type 0 where
+  pub each : (d : Definition) → o ≡ Some d → P d
 
-no_name : (f : Forms) (items : List ℕ) (k : Kind) → NamesFit f items k None
-no_name f items k = record { each = λ d e. absurd (cc) }
+pick : (P : Definition → Type 0) (b : Bool) (o rest : Option Definition) → (b ≡ true → AllFit P o) → AllFit P rest
+    → AllFit P (cond b o rest)
+pick P true o rest here later = here refl
+pick P false o rest here later = later
 
-only : (f : Forms) (items : List ℕ) (k : Kind) (b : Bool) (d : Definition) → NameFits f items k d
-    → NamesFit f items k (when b d)
-only f items k true d h = it f items k d h
-only f items k false d h = no_name f items k
+it : (P : Definition → Type 0) (d : Definition) → P d → AllFit P (Some d)
+it P d h = record { each = λ q e. let same : d ≡ q = cc in subst P same h }
 
-three_fits : (f : Forms) (items : List ℕ) (k what : Kind) → ((x : List ℕ) → k ≡ Symbol x → fits.is_symbol x ≡ true)
-    → NamesFit f items k (shapes.three k what)
-three_fits f items (Group is) what h = no_name f items (Group is)
-three_fits f items (Symbol x) what h =
-    pick f items (Symbol x) (bytes_eq (word_of what) (codes "register")) (Some definitions.Register) _
-    (it f items (Symbol x) definitions.Register (h x refl))
-    (only f items (Symbol x) (bytes_eq (word_of what) (codes "flag")) definitions.Flag (h x refl))
-three_fits f items (Number v) what h =
-    pick f items (Number v) (bytes_eq (word_of what) (codes "power")) (Some definitions.Power) _
-    (it f items (Number v) definitions.Power refl)
-    (pick f items (Number v) (bytes_eq (word_of what) (codes "ground")) (Some definitions.Ground) _
-    (it f items (Number v) definitions.Ground refl)
-    (pick f items (Number v) (bytes_eq (word_of what) (codes "phia")) (Some definitions.Phia) _
-    (it f items (Number v) definitions.Phia refl)
-    (pick f items (Number v) (bytes_eq (word_of what) (codes "phib")) (Some definitions.Phib) _
-    (it f items (Number v) definitions.Phib refl)
-    (only f items (Number v) (bytes_eq (word_of what) (codes "phic")) definitions.Phic refl))))
+nothing : (P : Definition → Type 0) → AllFit P None
+nothing P = record { each = λ d e. absurd (cc) }
 
-four_fits : (f : Forms) (items : List ℕ) (k what given : Kind)
-    → ((x : List ℕ) → k ≡ Symbol x → fits.is_symbol x ≡ true) → NamesFit f items k (shapes.four k what given)
-four_fits f items (Group is) what given h = no_name f items (Group is)
-four_fits f items (Number v) what given h = no_name f items (Number v)
-four_fits f items (Symbol x) what given h =
-    pick f items (Symbol x) (bytes_eq (word_of what) (codes "constant"))
-    (when (shapes.is_number given) definitions.Constant) _
-    (only f items (Symbol x) (shapes.is_number given) definitions.Constant (h x refl))
-    (pick f items (Symbol x) (bytes_eq (word_of given) (codes "internal")) _ None
-    (pick f items (Symbol x) (bytes_eq (word_of what) (codes "port")) (Some definitions.PortInternal) _
-    (it f items (Symbol x) definitions.PortInternal (h x refl))
-    (only f items (Symbol x) (bytes_eq (word_of what) (codes "signal")) definitions.SignalInternal (h x refl)))
-    (no_name f items (Symbol x)))
+only : (P : Definition → Type 0) (b : Bool) (d : Definition) → (b ≡ true → P d) → AllFit P (when b d)
+only P true d h = it P d (h refl)
+only P false d h = nothing P
 
-way_fits : (f : Forms) (items : List ℕ) (k : Kind) (x : List ℕ) (a b : Definition) → NameFits f items k a
-    → NameFits f items k b → NamesFit f items k (shapes.way x a b)
-way_fits f items k x a b here there =
-    pick f items k (bytes_eq x (codes "input")) (Some a) _ (it f items k a here)
-    (only f items k (bytes_eq x (codes "output")) b there)
+module _ (f : Forms) (expr : ℕ → ℕ) (items : List ℕ) where
+  abbrev Fit : Kind → Definition → Type 0
+  Fit k = DefinitionFits f expr items k
 
-five_fits : (f : Forms) (items : List ℕ) (k what named given : Kind)
-    → ((x : List ℕ) → k ≡ Symbol x → fits.is_symbol x ≡ true) → NamesFit f items k (shapes.five f k what named given)
-five_fits f items (Group is) what named given h = no_name f items (Group is)
-five_fits f items (Number v) what named given h = no_name f items (Number v)
-five_fits f items (Symbol x) what named given h =
-    pick f items (Symbol x) (bytes_eq (word_of what) (codes "port")) _ _
-    (pick f items (Symbol x) (shapes.is_pins f given) _ None
-    (way_fits f items (Symbol x) (word_of named) definitions.PortInput definitions.PortOutput (h x refl) (h x refl))
-    (no_name f items (Symbol x)))
-    (pick f items (Symbol x) (bytes_eq (word_of what) (codes "signal")) _ None
-    (pick f items (Symbol x) (shapes.is_number given) _ None
-    (way_fits f items (Symbol x) (word_of named) definitions.SignalInput definitions.SignalOutput (h x refl)
-    (h x refl)) (no_name f items (Symbol x)))
-    (no_name f items (Symbol x)))
+  abbrev Named : Kind → Type 0
+  Named k = (x : List ℕ) → k ≡ Symbol x → fits.is_symbol x ≡ true
 
-pub definition_fits : (f : Forms) (items : List ℕ)
-    → ((x : List ℕ) → kind_at f (slice_index items 1) ≡ Symbol x → fits.is_symbol x ≡ true)
-    → NamesFit f items (kind_at f (slice_index items 1)) (shapes.definition f items)
-definition_fits f items h =
-    pick f items (kind_at f (slice_index items 1)) (length items == 3) _ _
-    (three_fits f items (kind_at f (slice_index items 1)) (kind_at f (slice_index items 2)) h)
-    (pick f items (kind_at f (slice_index items 1)) (length items == 4) _ _
-    (four_fits f items (kind_at f (slice_index items 1)) (kind_at f (slice_index items 2))
-    (kind_at f (slice_index items 3)) h)
-    (pick f items (kind_at f (slice_index items 1)) (length items == 5) _ None
-    (five_fits f items (kind_at f (slice_index items 1)) (kind_at f (slice_index items 2))
-    (kind_at f (slice_index items 3)) (kind_at f (slice_index items 4)) h)
-    (no_name f items (kind_at f (slice_index items 1)))))
+  three_fits : (k what : Kind) → Named k → AllFit (Fit k) (shapes.three k what)
+  three_fits (Group is) what h = nothing (Fit (Group is))
+  three_fits (Symbol x) what h =
+      let P = Fit (Symbol x) in
+      pick P (bytes_eq (word_of what) (codes "register")) (Some definitions.Register) _
+      (λ e. it P definitions.Register (h x refl, tt))
+      (only P (bytes_eq (word_of what) (codes "flag")) definitions.Flag (λ e. (h x refl, tt)))
+  three_fits (Number v) what h =
+      let P = Fit (Number v) in
+      pick P (bytes_eq (word_of what) (codes "power")) (Some definitions.Power) _
+      (λ e. it P definitions.Power (refl, tt))
+      (pick P (bytes_eq (word_of what) (codes "ground")) (Some definitions.Ground) _
+      (λ e. it P definitions.Ground (refl, tt))
+      (pick P (bytes_eq (word_of what) (codes "phia")) (Some definitions.Phia) _
+      (λ e. it P definitions.Phia (refl, tt))
+      (pick P (bytes_eq (word_of what) (codes "phib")) (Some definitions.Phib) _
+      (λ e. it P definitions.Phib (refl, tt))
+      (only P (bytes_eq (word_of what) (codes "phic")) definitions.Phic (λ e. (refl, tt))))))
+
+  four_fits : (k what given : Kind) → Named k → AllFit (Fit k) (shapes.four k what given)
+  four_fits (Group is) what given h = nothing (Fit (Group is))
+  four_fits (Number v) what given h = nothing (Fit (Number v))
+  four_fits (Symbol x) what given h =
+      let P = Fit (Symbol x) in
+      pick P (bytes_eq (word_of what) (codes "constant")) (when (shapes.is_number given) definitions.Constant) _
+      (λ e. only P (shapes.is_number given) definitions.Constant (λ e. (h x refl, tt)))
+      (pick P (bytes_eq (word_of given) (codes "internal")) _ None
+      (λ e. pick P (bytes_eq (word_of what) (codes "port")) (Some definitions.PortInternal) _
+      (λ e. it P definitions.PortInternal (h x refl, tt))
+      (only P (bytes_eq (word_of what) (codes "signal")) definitions.SignalInternal (λ e. (h x refl, tt))))
+      (nothing P))
+
+  way_fits : (P : Definition → Type 0) (x : List ℕ) (a b : Definition) → P a → P b → AllFit P (shapes.way x a b)
+  way_fits P x a b here there =
+      pick P (bytes_eq x (codes "input")) (Some a) _ (λ e. it P a here)
+      (only P (bytes_eq x (codes "output")) b (λ e. there))
+
+  five_fits : (k what given : Kind) → Named k → length items ≡ 5
+      → AllFit (Fit k) (shapes.five f k what (kind_at f (slice_index items 3)) given)
+  five_fits (Group is) what given h five = nothing (Fit (Group is))
+  five_fits (Number v) what given h five = nothing (Fit (Number v))
+  five_fits (Symbol x) what given h five =
+      let P = Fit (Symbol x) in
+      let named = kind_at f (slice_index items 3) in
+      let function = bytes_eq (word_of what) (codes "function") in
+      pick P (bytes_eq (word_of what) (codes "port")) _ _
+      (λ e. pick P (shapes.is_pins f given) _ None
+      (λ e. way_fits P (word_of named) definitions.PortInput definitions.PortOutput (h x refl, tt) (h x refl, tt))
+      (nothing P))
+      (pick P (bytes_eq (word_of what) (codes "signal")) _ _
+      (λ e. pick P (shapes.is_number given) _ None
+      (λ e. way_fits P (word_of named) definitions.SignalInput definitions.SignalOutput (h x refl, tt) (h x refl, tt))
+      (nothing P))
+      (only P (function && shapes.is_symbols f named) definitions.Function
+      (λ e. (h x refl, (five, (and_parts function (shapes.is_symbols f named) e).1)))))
+
+  pub definition_fits : Named (kind_at f (slice_index items 1))
+      → AllFit (Fit (kind_at f (slice_index items 1))) (shapes.definition f items)
+  definition_fits h =
+      let k = kind_at f (slice_index items 1) in
+      let what = kind_at f (slice_index items 2) in
+      pick (Fit k) (length items == 3) _ _ (λ e. three_fits k what h)
+      (pick (Fit k) (length items == 4) _ _ (λ e. four_fits k what (kind_at f (slice_index items 3)) h)
+      (pick (Fit k) (length items == 5) _ None
+      (λ e. five_fits k what (kind_at f (slice_index items 4)) h (eqb-true (length items) 5 e))
+      (nothing (Fit k))))
+
+-- the head of a use is a symbol
+head_of_use : (b t : Bool) (x : List ℕ) (n : ℕ) (o : Option Op) → cond b (when t Bit) (shapes.applied o x n) ≡ Some Use
+    → not (length x == 0) ≡ true
+head_of_use true true x n o h = absurd (cc)
+head_of_use true false x n o h = absurd (cc)
+head_of_use false t x n (Some op) h = absurd (by_test (shapes.takes op n) h)
+  where
+    by_test : (s : Bool) → when s (Apply op) ≡ Some Use → ⊥
+    by_test true e = cc
+    by_test false e = cc
+head_of_use false t x n None h = by_test (not (length x == 0)) (nat_le 2 n) h
+  where
+    by_test : (r s : Bool) → when (r && s) Use ≡ Some Use → r ≡ true
+    by_test true s e = refl
+    by_test false s e = absurd (cc)
+
+pub use_is_named : (f : Forms) (k : Kind) → layout f Value k ≡ Some Use
+    → not (length (word_of (kind_at f (slice_index (items_of k) 0))) == 0) ≡ true
+use_is_named f (Number v) h = absurd (cc)
+use_is_named f (Symbol x) h = absurd (cc)
+use_is_named f (Group []) h = absurd (cc)
+use_is_named f (Group (i ∷ is)) h =
+    let x = word_of (kind_at f i) in
+    head_of_use (bytes_eq x (codes "bit")) (length (i ∷ is) == 3) x (length (i ∷ is)) (shapes.op_of x)
+    (sym (shaped f Value i is) ∙ h)

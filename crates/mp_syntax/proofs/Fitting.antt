@@ -14,23 +14,27 @@ use Rattle.form_reader.specs.Sound.{IsSound, HasSymbols, node, kind_at, items_of
 use Rattle.mp_shapes.specs.declared.table.Class.{Class}
 use Rattle.mp_shapes.specs.declared.table.Class.TheVariants as classes
 use Rattle.mp_shapes.specs.declared.table.Definition.{Definition}
+use Rattle.mp_shapes.specs.declared.table.Definition.TheVariants as definitions
 use Rattle.mp_shapes.specs.declared.table.Layout.{Layout}
 use Rattle.mp_shapes.specs.declared.table.Layout.TheVariants as layouts
 use Rattle.mp_shapes.specs.Layout.{layout, item_class, word_of, is_symbol, behind_number}
 use Rattle.mp_shapes.specs.Layout as shapes
 use Rattle.mp_shapes.specs.Standing.{StandsFor, root, AreClasses}
-use Rattle.mp_program.specs.declared.program.ExprKind.TheVariants as exprs
-use Rattle.mp_program.specs.declared.program.Def.{Def}
-use Rattle.mp_program.specs.declared.program.Expr.{Expr}
 use Rattle.mp_program.specs.declared.program.Form.{Form}
 use Rattle.mp_program.specs.declared.program.Label.{Label}
 use Rattle.mp_program.specs.declared.program.Process.{Process}
 use Rattle.mp_base.specs.Apply.{takes}
 use Rattle.mp_program.specs.Fits as fits
+use Rattle.mp_written.specs.declared.program.ExprKind.TheVariants as exprs
+use Rattle.mp_written.specs.declared.program.Arg.{Arg}
+use Rattle.mp_written.specs.declared.program.Def.{Def}
+use Rattle.mp_written.specs.declared.program.Expr.{Expr}
+use Rattle.mp_written.specs.Fits as written
 use Rattle.mp_entries.specs.Entries.{branch_at, expr_at, expr_index, expr_kind, form_at, form_index, form_kind, is_expr}
 use Rattle.mp_entries.specs.Entries.{is_form, list_expr, name_at, nodes_below, number_at, number_of}
-use Rattle.mp_syntax.specs.Shape.{always_at, always_in, def_at, def_in, labels_from, process_at, process_in, process_of}
-use Rattle.mp_syntax.proofs.Counts.{Counts, layout_counts, shaped, definition_fits}
+use Rattle.mp_syntax.specs.Shape.{always_at, always_in, arg_at, def_at, def_in, labels_from, process_at, process_in}
+use Rattle.mp_syntax.specs.Shape.{process_of, what_of}
+use Rattle.mp_syntax.proofs.Counts.{Counts, FunctionFits, definition_fits, layout_counts, shaped, use_is_named}
 use Rattle.mp_entries.proofs.Numbering.{nodes_below_with, nodes_below_without}
 use Rattle.mp_syntax.proofs.Standing.{child, passes_expr, passes_form, passes_element, expr_stands, form_stands}
 use Rattle.mp_syntax.proofs.Standing.{word_fits, in_range, behind_it}
@@ -164,13 +168,34 @@ operands_fit f cs k n from l st lt is lay are =
     behind_it (is_expr cs) (length f.nodes) n (slice_index (items_of (kind_at f n)) j) it.later it.inside is
     (passes_expr f cs k.classes (slice_index (items_of (kind_at f n)) j) it.stands))
 
+-- a symbol is no empty name
+symbol_fits : (f : Forms) → HasSymbols f → (i : ℕ) → is_symbol (kind_at f i) ≡ true
+    → fits.is_symbol (name_at f i) ≡ true
+symbol_fits f symbols i is = by_kind (kind_at f i) refl is
+  where
+    by_kind : (x : Kind) → kind_at f i ≡ x → is_symbol x ≡ true → fits.is_symbol (word_of x) ≡ true
+    by_kind (Number v) e h = absurd (cc)
+    by_kind (Symbol y) e h = symbols i y e
+    by_kind (Group items) e h = absurd (cc)
+
+head_fits : (f : Forms) → HasSymbols f → (items : List ℕ) → layout f classes.Value (Group items) ≡ Some layouts.Use
+    → fits.is_symbol (name_at f (slice_index items 0)) ≡ true
+head_fits f symbols items lay =
+    by_kind (kind_at f (slice_index items 0)) refl (use_is_named f (Group items) lay)
+  where
+    by_kind : (x : Kind) → kind_at f (slice_index items 0) ≡ x → not (length (word_of x) == 0) ≡ true
+        → fits.is_symbol (word_of x) ≡ true
+    by_kind (Number v) e h = absurd (cc)
+    by_kind (Symbol y) e h = symbols (slice_index items 0) y e
+    by_kind (Group is) e h = absurd (cc)
+
 pub expr_fits : (f : Forms) (cs : List (Option Class)) → Known f cs → (n : ℕ) → n < length f.nodes → is_expr cs n ≡ true
-    → fits.expr_fits (length (nodes_below (is_expr cs) (length f.nodes))) (length (nodes_below (is_expr cs) n))
+    → written.expr_fits (length (nodes_below (is_expr cs) (length f.nodes))) (length (nodes_below (is_expr cs) n))
     (expr_kind f (expr_index f cs) (kind_at f n)) ≡ true
 expr_fits f cs k n lt is = by_kind (kind_at f n) refl
   where
     by_symbol : (a b : Bool) (x : List ℕ) → fits.is_symbol x ≡ true
-        → fits.expr_fits (length (nodes_below (is_expr cs) (length f.nodes))) (length (nodes_below (is_expr cs) n))
+        → written.expr_fits (length (nodes_below (is_expr cs) (length f.nodes))) (length (nodes_below (is_expr cs) n))
         (cond a exprs.True (cond b exprs.False (exprs.Named x))) ≡ true
     by_symbol true b x h = refl
     by_symbol false true x h = refl
@@ -181,7 +206,7 @@ expr_fits f cs k n lt is = by_kind (kind_at f n) refl
 
     by_layout : (items : List ℕ) → kind_at f n ≡ Group items → (o : Option Layout)
         → layout f classes.Value (Group items) ≡ o
-        → fits.expr_fits (length (nodes_below (is_expr cs) (length f.nodes))) (length (nodes_below (is_expr cs) n))
+        → written.expr_fits (length (nodes_below (is_expr cs) (length f.nodes))) (length (nodes_below (is_expr cs) n))
         (list_expr f (expr_index f cs) items o) ≡ true
     by_layout items e (Some (layouts.Apply op)) lay =
         let here : layout f classes.Value (kind_at f n) ≡ Some (layouts.Apply op) =
@@ -207,10 +232,22 @@ expr_fits f cs k n lt is = by_kind (kind_at f n) refl
         (length (nodes_below (is_expr cs) (length f.nodes))) (map (expr_index f cs) (drop 2 xs)) ≡ true in
         subst P same
         (operands_fit f cs k n 2 layouts.Bit st lt is here (λ j h. not_first j classes.Numeral classes.Value h)))
+    by_layout items e (Some layouts.Use) lay =
+        let here : layout f classes.Value (kind_at f n) ≡ Some layouts.Use =
+        ap (λ x. layout f classes.Value x) e ∙ lay in
+        let same : items_of (kind_at f n) ≡ items = ap items_of e in
+        let two : 2 ≤ length (items_of (kind_at f n)) = counts f n classes.Value layouts.Use here in
+        let some : 1 ≤ length (map (expr_index f cs) (drop 1 items)) =
+        omega (arith, length-map (drop 1 items) (expr_index f cs), length-drop 1 items, ap length same, two) in
+        and_from _ _ (and_from _ _ (head_fits f k.symbols items lay) (le-leb 1 _ some))
+        (let P : List ℕ
+        → Type 0 = λ xs. fits.all_behind (length (nodes_below (is_expr cs) n))
+        (length (nodes_below (is_expr cs) (length f.nodes))) (map (expr_index f cs) (drop 1 xs)) ≡ true in
+        subst P same (operands_fit f cs k n 1 layouts.Use st lt is here (λ j h. not_head j classes.Value h)))
     by_layout items e _ lay = refl
 
     by_kind : (x : Kind) → kind_at f n ≡ x
-        → fits.expr_fits (length (nodes_below (is_expr cs) (length f.nodes))) (length (nodes_below (is_expr cs) n))
+        → written.expr_fits (length (nodes_below (is_expr cs) (length f.nodes))) (length (nodes_below (is_expr cs) n))
         (expr_kind f (expr_index f cs) x) ≡ true
     by_kind (Number v) e = refl
     by_kind (Symbol x) e = by_symbol (bytes_eq x (codes "t")) (bytes_eq x (codes "f")) x (k.symbols n x e)
@@ -320,20 +357,66 @@ def_layout f (Group (i ∷ is)) d h =
     (bytes_eq (word_of (kind_at f i)) (codes "process") && nat_le 3 (length (i ∷ is))) (shapes.definition f (i ∷ is)) d
     (sym (shaped f classes.Item i is) ∙ h)
 
-def_fits : (f : Forms) → HasSymbols f → (m : ℕ) (x : Def) → def_at f m ≡ Some x → fits.def_fits x ≡ true
-def_fits f symbols m x is = by_layout (layout f classes.Item (kind_at f m)) refl is
+pub function_fits : (f : Forms) → HasSymbols f → (m : ℕ)
+    → layout f classes.Item (kind_at f m) ≡ Some (layouts.Def definitions.Function)
+    → FunctionFits f (items_of (kind_at f m)) definitions.Function
+function_fits f symbols m lay =
+    ((definition_fits f (λ i. i) (items_of (kind_at f m)) (λ y named. symbols _ y named)).each definitions.Function
+    (def_layout f (kind_at f m) definitions.Function lay)).1
+
+-- the arguments of a function are symbols
+args_fit : (f : Forms) → HasSymbols f → (x : Kind) → shapes.is_symbols f x ≡ true
+    → (nat_le 1 (length (map (arg_at f) (items_of x)))
+    && list_all (λ (a : Arg). fits.is_symbol a.name) (map (arg_at f) (items_of x))) ≡ true
+args_fit f symbols (Number v) h = absurd (cc)
+args_fit f symbols (Symbol y) h = absurd (cc)
+args_fit f symbols (Group items) h =
+    let parts = and_parts (nat_le 1 (length items)) (list_all (λ i. is_symbol (kind_at f i)) items) h in
+    and_from _ _ (ap (nat_le 1) (length-map items (arg_at f)) ∙ parts.0) (each items parts.1)
   where
-    by_layout : (o : Option Layout) → layout f classes.Item (kind_at f m) ≡ o → def_in f m o ≡ Some x
-        → fits.def_fits x ≡ true
+    each : (is : List ℕ) → list_all (λ i. is_symbol (kind_at f i)) is ≡ true
+        → list_all (λ (a : Arg). fits.is_symbol a.name) (map (arg_at f) is) ≡ true
+    each [] h = refl
+    each (i ∷ is) h =
+        let parts = and_parts (is_symbol (kind_at f i)) (list_all (λ i. is_symbol (kind_at f i)) is) h in
+        and_from _ _ (symbol_fits f symbols i parts.0) (each is parts.1)
+
+-- what a definition defines: the arguments of a function are symbols, and its body is an expression
+what_fits : (f : Forms) (cs : List (Option Class)) → Known f cs → (m : ℕ) → m < length f.nodes
+    → StandsFor f m classes.Item → (d : Definition) → layout f classes.Item (kind_at f m) ≡ Some (layouts.Def d)
+    → written.what_fits (length (nodes_below (is_expr cs) (length f.nodes)))
+    (what_of f (expr_index f cs) (items_of (kind_at f m)) d) ≡ true
+what_fits f cs k m lt st definitions.Function lay =
+    let items : List ℕ = items_of (kind_at f m) in
+    let (five, symbols) = function_fits f k.symbols m lay in
+    let body =
+    inner f cs k m 4 classes.Item classes.Value (layouts.Def definitions.Function) st lt lay refl
+    (omega (arith, five)) in
+    and_from _ _ (args_fit f k.symbols (kind_at f (slice_index items 3)) symbols)
+    (lt-ltb _ _
+    (in_range (is_expr cs) (length f.nodes) (slice_index items 4) body.inside
+    (passes_expr f cs k.classes (slice_index items 4) body.stands)))
+what_fits f cs k m lt st _ lay = refl
+
+def_fits : (f : Forms) (cs : List (Option Class)) → Known f cs → (m : ℕ) → m < length f.nodes
+    → StandsFor f m classes.Item → (x : Def) → def_at f (expr_index f cs) m ≡ Some x
+    → written.def_fits (length (nodes_below (is_expr cs) (length f.nodes))) x ≡ true
+def_fits f cs k m lt st x is = by_layout (layout f classes.Item (kind_at f m)) refl is
+  where
+    Some_inj : (a b : Def) → Some a ≡ Some b → a ≡ b
+    Some_inj a b h = cc
+
+    by_layout : (o : Option Layout) → layout f classes.Item (kind_at f m) ≡ o
+        → def_in f (expr_index f cs) m o ≡ Some x
+        → written.def_fits (length (nodes_below (is_expr cs) (length f.nodes))) x ≡ true
     by_layout (Some (layouts.Def d)) lay e =
+        let items : List ℕ = items_of (kind_at f m) in
         let same : _ ≡ x = Some_inj _ x e in
-        let P : Def → Type 0 = λ y. fits.def_fits y ≡ true in
-        subst P same
-        ((definition_fits f (items_of (kind_at f m)) (λ y named. symbols _ y named)).each d
-        (def_layout f (kind_at f m) d lay))
-      where
-        Some_inj : (a b : Def) → Some a ≡ Some b → a ≡ b
-        Some_inj a b h = cc
+        let P : Def → Type 0 = λ y. written.def_fits (length (nodes_below (is_expr cs) (length f.nodes))) y ≡ true in
+        let named =
+        ((definition_fits f (expr_index f cs) items (λ y named. k.symbols _ y named)).each d
+        (def_layout f (kind_at f m) d lay)).0 in
+        subst P same (and_from _ _ named (what_fits f cs k m lt st d lay))
     by_layout None lay e = absurd (cc)
     by_layout (Some layouts.Leaf) lay e = absurd (cc)
     by_layout (Some layouts.Program) lay e = absurd (cc)
@@ -348,6 +431,7 @@ def_fits f symbols m x is = by_layout (layout f classes.Item (kind_at f m)) refl
     by_layout (Some layouts.Guarded) lay e = absurd (cc)
     by_layout (Some (layouts.Apply op)) lay e = absurd (cc)
     by_layout (Some layouts.Bit) lay e = absurd (cc)
+    by_layout (Some layouts.Use) lay e = absurd (cc)
 
 always_fits : (f : Forms) (cs : List (Option Class)) → Known f cs → (m : ℕ) → m < length f.nodes
     → StandsFor f m classes.Item
@@ -366,15 +450,6 @@ always_fits f cs k m lt st = by_layout (layout f classes.Item (kind_at f m)) ref
         (in_range (is_form f cs) (length f.nodes) (slice_index (items_of (kind_at f m)) j) it.inside
         (passes_form f cs k.classes (slice_index (items_of (kind_at f m)) j) it.stands)))
     by_layout _ lay = refl
-
-symbol_fits : (f : Forms) → HasSymbols f → (i : ℕ) → is_symbol (kind_at f i) ≡ true
-    → fits.is_symbol (name_at f i) ≡ true
-symbol_fits f symbols i is = by_kind (kind_at f i) refl is
-  where
-    by_kind : (x : Kind) → kind_at f i ≡ x → is_symbol x ≡ true → fits.is_symbol (word_of x) ≡ true
-    by_kind (Number v) e h = absurd (cc)
-    by_kind (Symbol y) e h = symbols i y e
-    by_kind (Group items) e h = absurd (cc)
 
 labels_fit : (f : Forms) → HasSymbols f → (xs : List ℕ) (before bound : ℕ)
     → before + length (filter (λ i. not (is_symbol (kind_at f i))) xs) ≤ bound
@@ -470,6 +545,7 @@ process_fits f cs k m lt st q is = by_layout (layout f classes.Item (kind_at f m
     by_layout (Some layouts.Guarded) lay e = absurd (cc)
     by_layout (Some (layouts.Apply op)) lay e = absurd (cc)
     by_layout (Some layouts.Bit) lay e = absurd (cc)
+    by_layout (Some layouts.Use) lay e = absurd (cc)
 
 -- the one form of a file without a defect is a program
 pub is_program : (f : Forms) (cs : List (Option Class)) → AreClasses f cs → (r : ℕ) (rs : List ℕ) → f.roots ≡ r ∷ rs
@@ -522,15 +598,19 @@ is_width f cs k r rs is =
 -- the parts of what the type of a program says
 parts_fit : (w : ℕ) (name : List ℕ) (defs : List Def) (es : List Expr) (fs : List Form) (always : List ℕ)
     (processes : List Process) (e n : ℕ)
-    → length es ≡ e → length fs ≡ n → 1 ≤ w → w ≤ 64 → fits.is_symbol name ≡ true → list_all fits.def_fits defs ≡ true
-    → fits.exprs_fit e 0 es ≡ true → fits.forms_fit e n 0 fs ≡ true
+    → length es ≡ e → length fs ≡ n → 1 ≤ w → w ≤ 64 → fits.is_symbol name ≡ true
+    → list_all (written.def_fits e) defs ≡ true
+    → written.exprs_fit e 0 es ≡ true → fits.forms_fit e n 0 fs ≡ true
     → list_all (λ x. nat_lt x n) always ≡ true → list_all (fits.process_fits n) processes ≡ true
-    → fits.program_fits w name defs es fs always processes ≡ true
+    → written.program_fits w name defs es fs always processes ≡ true
 parts_fit w name defs es fs always processes e n he hn low high named defined exprs_are forms_are top processed =
     let one = and_from (nat_le 1 w) (nat_le w 64) (le-leb 1 w low) (le-leb w 64 high) in
     let two = and_from _ (fits.is_symbol name) one named in
-    let three = and_from _ (list_all fits.def_fits defs) two defined in
-    let four = and_from _ (fits.exprs_fit (length es) 0 es) three (ap (λ x. fits.exprs_fit x 0 es) he ∙ exprs_are) in
+    let three =
+    and_from _ (list_all (written.def_fits (length es)) defs) two
+    (ap (λ k. list_all (written.def_fits k) defs) he ∙ defined) in
+    let four =
+    and_from _ (written.exprs_fit (length es) 0 es) three (ap (λ x. written.exprs_fit x 0 es) he ∙ exprs_are) in
     let five =
     and_from _ (fits.forms_fit (length es) (length fs) 0 fs) four
     (ap (λ x. fits.forms_fit x (length fs) 0 fs) he ∙ ap (λ x. fits.forms_fit e x 0 fs) hn ∙ forms_are) in
@@ -548,9 +628,9 @@ width_inside f cs k r rs is = (width_node f cs k r rs is).inside
 pub all_fits : (f : Forms) (cs : List (Option Class)) → Known f cs → (r : ℕ) (rs : List ℕ) → f.roots ≡ r ∷ rs
     → 1 ≤ number_at f (slice_index (items_of (kind_at f r)) 2)
     → number_at f (slice_index (items_of (kind_at f r)) 2) ≤ 64
-    → fits.program_fits (number_at f (slice_index (items_of (kind_at f r)) 2))
+    → written.program_fits (number_at f (slice_index (items_of (kind_at f r)) 2))
     (name_at f (slice_index (items_of (kind_at f r)) 1))
-    (filter_map (def_at f) (drop 3 (items_of (kind_at f r))))
+    (filter_map (def_at f (expr_index f cs)) (drop 3 (items_of (kind_at f r))))
     (map (expr_at f (expr_index f cs)) (nodes_below (is_expr cs) (length f.nodes)))
     (map (form_at f (expr_index f cs) (form_index f cs)) (nodes_below (is_form f cs) (length f.nodes)))
     (flat_map (always_at f (form_index f cs)) (drop 3 (items_of (kind_at f r))))
@@ -560,16 +640,17 @@ all_fits f cs k r rs is low high =
     let nodes : List ℕ = nodes_below (is_expr cs) (length f.nodes) in
     let form_nodes : List ℕ = nodes_below (is_form f cs) (length f.nodes) in
     parts_fit (number_at f (slice_index items 2)) (name_at f (slice_index items 1))
-    (filter_map (def_at f) (drop 3 items)) (map (expr_at f (expr_index f cs)) nodes)
+    (filter_map (def_at f (expr_index f cs)) (drop 3 items)) (map (expr_at f (expr_index f cs)) nodes)
     (map (form_at f (expr_index f cs) (form_index f cs)) form_nodes)
     (flat_map (always_at f (form_index f cs)) (drop 3 items))
     (filter_map (process_at f (form_index f cs)) (drop 3 items)) (length nodes) (length form_nodes)
     (length-map nodes (expr_at f (expr_index f cs)))
     (length-map form_nodes (form_at f (expr_index f cs) (form_index f cs))) low high named
-    (all_filter_map fits.def_fits (def_at f) (drop 3 items)
-    (λ i x il e. def_fits f k.symbols (slice_index (drop 3 items) i) x e))
-    (fit_entries (λ i (x : Expr). fits.expr_fits (length nodes) i x.kind) (fits.exprs_fit (length nodes)) (λ i. refl)
-    (λ i x xs. refl) (expr_at f (expr_index f cs)) (is_expr cs) (length f.nodes)
+    (all_filter_map (written.def_fits (length nodes)) (def_at f (expr_index f cs)) (drop 3 items)
+    (λ i x il e. let it = dropped (λ m. Inner f r m classes.Item) items 3 part i il in
+    def_fits f cs k (slice_index (drop 3 items) i) it.inside it.stands x e))
+    (fit_entries (λ i (x : Expr). written.expr_fits (length nodes) i x.kind) (written.exprs_fit (length nodes))
+    (λ i. refl) (λ i x xs. refl) (expr_at f (expr_index f cs)) (is_expr cs) (length f.nodes)
     (λ m ml passes. expr_fits f cs k m ml passes))
     (fit_entries (λ i (x : Form). fits.form_fits (length nodes) (length form_nodes) i x.kind)
     (fits.forms_fit (length nodes) (length form_nodes)) (λ i. refl) (λ i x xs. refl)
@@ -602,12 +683,12 @@ all_fits f cs k r rs is low high =
 same_fits : (w v : ℕ) (m n : List ℕ) (c d : List Def) (es xs : List Expr) (fs gs : List Form) (a b : List ℕ)
     (ps qs : List Process)
     → w ≡ v → m ≡ n → c ≡ d → es ≡ xs → fs ≡ gs → a ≡ b → ps ≡ qs
-    → fits.program_fits w m c es fs a ps ≡ fits.program_fits v n d xs gs b qs
+    → written.program_fits w m c es fs a ps ≡ written.program_fits v n d xs gs b qs
 same_fits w v m n c d es xs fs gs a b ps qs e1 e2 e3 e4 e5 e6 e7 =
-    ap (λ x. fits.program_fits x m c es fs a ps) e1 ∙ ap (λ x. fits.program_fits v x c es fs a ps) e2
-    ∙ ap (λ x. fits.program_fits v n x es fs a ps) e3 ∙ ap (λ x. fits.program_fits v n d x fs a ps) e4
-    ∙ ap (λ x. fits.program_fits v n d xs x a ps) e5 ∙ ap (λ x. fits.program_fits v n d xs gs x ps) e6
-    ∙ ap (λ x. fits.program_fits v n d xs gs b x) e7
+    ap (λ x. written.program_fits x m c es fs a ps) e1 ∙ ap (λ x. written.program_fits v x c es fs a ps) e2
+    ∙ ap (λ x. written.program_fits v n x es fs a ps) e3 ∙ ap (λ x. written.program_fits v n d x fs a ps) e4
+    ∙ ap (λ x. written.program_fits v n d xs x a ps) e5 ∙ ap (λ x. written.program_fits v n d xs gs x ps) e6
+    ∙ ap (λ x. written.program_fits v n d xs gs b x) e7
 
 -- the same, of lists that are these
 pub fits_at : (f : Forms) (cs : List (Option Class)) → Known f cs → (r : ℕ) (rs : List ℕ) → f.roots ≡ r ∷ rs
@@ -617,11 +698,11 @@ pub fits_at : (f : Forms) (cs : List (Option Class)) → Known f cs → (r : ℕ
     (processes : List Process)
     → w ≡ number_at f (slice_index (items_of (kind_at f r)) 2)
     → name ≡ name_at f (slice_index (items_of (kind_at f r)) 1)
-    → defs ≡ filter_map (def_at f) (drop 3 (items_of (kind_at f r)))
+    → defs ≡ filter_map (def_at f (expr_index f cs)) (drop 3 (items_of (kind_at f r)))
     → es ≡ map (expr_at f (expr_index f cs)) (nodes_below (is_expr cs) (length f.nodes))
     → fs ≡ map (form_at f (expr_index f cs) (form_index f cs)) (nodes_below (is_form f cs) (length f.nodes))
     → always ≡ flat_map (always_at f (form_index f cs)) (drop 3 (items_of (kind_at f r)))
     → processes ≡ filter_map (process_at f (form_index f cs)) (drop 3 (items_of (kind_at f r)))
-    → fits.program_fits w name defs es fs always processes ≡ true
+    → written.program_fits w name defs es fs always processes ≡ true
 fits_at f cs k r rs is low high w name defs es fs always processes e1 e2 e3 e4 e5 e6 e7 =
     same_fits w _ name _ defs _ es _ fs _ always _ processes _ e1 e2 e3 e4 e5 e6 e7 ∙ all_fits f cs k r rs is low high

@@ -12,20 +12,24 @@ use Rattle.form_reader.specs.declared.forms.Forms.{Forms}
 use Rattle.form_reader.specs.Sound.{IsItem, kind_at, items_of}
 use Rattle.mp_shapes.specs.declared.table.Class.{Class}
 use Rattle.mp_shapes.specs.declared.table.Class.TheVariants as classes
+use Rattle.mp_shapes.specs.declared.table.Definition.TheVariants as definitions
 use Rattle.mp_shapes.specs.declared.table.Layout.{Layout}
 use Rattle.mp_shapes.specs.declared.table.Layout.TheVariants as layouts
 use Rattle.mp_shapes.specs.Layout.{layout, item_class, is_symbol}
 use Rattle.mp_shapes.specs.Standing.{StandsFor}
-use Rattle.mp_program.specs.declared.program.ExprKind.TheVariants as exprs
 use Rattle.mp_program.specs.declared.program.Branch.{Branch}
-use Rattle.mp_program.specs.declared.program.Expr.{Expr}
 use Rattle.mp_program.specs.declared.program.Form.{Form}
 use Rattle.mp_program.specs.declared.program.Process.{Process}
-use Rattle.mp_program.specs.Tree.{is_distinct, operands, exprs_in, inner as inner_forms, expr_places, form_places}
+use Rattle.mp_program.specs.Tree.{is_distinct, exprs_in, inner as inner_forms, form_places}
+use Rattle.mp_written.specs.declared.program.ExprKind.TheVariants as exprs
+use Rattle.mp_written.specs.declared.program.Def.{Def}
+use Rattle.mp_written.specs.declared.program.Expr.{Expr}
+use Rattle.mp_written.specs.Tree.{body_in, operands, expr_places}
 use Rattle.mp_entries.specs.Entries.{branch_at, expr_at, expr_index, expr_kind, form_at, form_index, form_kind, is_expr}
 use Rattle.mp_entries.specs.Entries.{is_form, list_expr, nodes_below}
-use Rattle.mp_syntax.specs.Shape.{always_at, always_in, process_at, process_in}
-use Rattle.mp_syntax.proofs.Fitting.{Known, inner, counts, guarded as guarded_shape, not_head, not_first, not_number}
+use Rattle.mp_syntax.specs.Shape.{always_at, always_in, def_at, def_in, process_at, process_in}
+use Rattle.mp_syntax.proofs.Fitting.{Known, inner, counts, guarded as guarded_shape, function_fits, not_head, not_first}
+use Rattle.mp_syntax.proofs.Fitting.{not_number}
 use Rattle.mp_syntax.proofs.Standing.{expr_stands, form_stands, passes_element, passes_expr, passes_form}
 use Rattle.mp_syntax.proofs.Distinct.{Among, Distinct, among_append, among_drop, among_filter, among_flat, among_map}
 use Rattle.mp_syntax.proofs.Distinct.{among_range, distinct_append, distinct_drop, distinct_filter, distinct_flat}
@@ -34,22 +38,27 @@ use Rattle.mp_syntax.proofs.Holding.{items_at, AllHeld, AllStem, Group, Holds, S
 use Rattle.mp_syntax.proofs.Holding.{direct_stems, dropped, group, guarded, held_apart, no_group}
 use Rattle.mp_syntax.proofs.Holding.{no_stems, nodes_distinct, one_holder, one_shape}
 
--- the top-level forms of a process, if it is one
-abbrev pub roots_of : Option Process → List ℕ
-roots_of (Some q) = q.forms
-roots_of None = []
+-- what stands in an entry, if there is one
+abbrev pub held_by : {X : Type 0} → (X → List ℕ) → Option X → List ℕ
+held_by h (Some q) = h q
+held_by h None = []
 
-roots_mapped : (g : ℕ → Option Process) (xs : List ℕ)
-    → flat_map (λ (q : Process). q.forms) (filter_map g xs) ≡ flat_map (λ x. roots_of (g x)) xs
-roots_mapped g [] = refl
-roots_mapped g (x ∷ xs) = by_option (g x) (roots_mapped g xs)
+held_mapped : {X : Type 0} (h : X → List ℕ) (g : ℕ → Option X) (xs : List ℕ)
+    → flat_map h (filter_map g xs) ≡ flat_map (λ x. held_by h (g x)) xs
+held_mapped h g [] = refl
+held_mapped {X} h g (x ∷ xs) = by_option (g x) (held_mapped h g xs)
   where
-    by_option : (o : Option Process)
-        → flat_map (λ (q : Process). q.forms) (filter_map g xs) ≡ flat_map (λ y. roots_of (g y)) xs
-        → flat_map (λ (q : Process). q.forms) (cons_option o (filter_map g xs))
-        ≡ roots_of o ++ flat_map (λ y. roots_of (g y)) xs
+    by_option : (o : Option X) → flat_map h (filter_map g xs) ≡ flat_map (λ y. held_by h (g y)) xs
+        → flat_map h (cons_option o (filter_map g xs)) ≡ held_by h o ++ flat_map (λ y. held_by h (g y)) xs
     by_option None rest = rest
-    by_option (Some q) rest = ap (λ ys. q.forms ++ ys) rest
+    by_option (Some q) rest = ap (λ ys. h q ++ ys) rest
+
+-- the top-level forms of a process, and the body of a function, if it is one
+abbrev pub roots_of : Option Process → List ℕ
+roots_of = held_by (λ (q : Process). q.forms)
+
+abbrev pub body_of_def : Option Def → List ℕ
+body_of_def = held_by (λ (d : Def). body_in d.what)
 
 -- the entries of the guard and the body of a branch
 abbrev guard_of : Forms → List (Option Class) → ℕ → ℕ
@@ -80,6 +89,9 @@ args_under f cs n = operands (expr_kind f (expr_index f cs) (kind_at f n))
 
 abbrev roots_under : Forms → List (Option Class) → ℕ → List ℕ
 roots_under f cs n = roots_of (process_at f (form_index f cs) n)
+
+abbrev bodies_under : Forms → List (Option Class) → ℕ → List ℕ
+bodies_under f cs n = body_of_def (def_at f (expr_index f cs) n)
 
 -- ---- what a node holds
 
@@ -118,6 +130,33 @@ module _ (f : Forms) (cs : List (Option Class)) (k : Known f cs) where
                 (subst (λ m. StandsFor f m classes.Element) (sym e) it.stands) (not-true _ other),
           ))
       by_layout _ lay = no_group f cs k (is_form f cs) n classes.Item layouts.Process
+
+  function_group : (n : ℕ) → n < length f.nodes → StandsFor f n classes.Item
+      → Group f (is_expr cs) n classes.Item (layouts.Def definitions.Function) (bodies_under f cs n)
+  function_group n lt st = by_layout (layout f classes.Item (kind_at f n)) refl
+    where
+      by_layout : (o : Option Layout) → layout f classes.Item (kind_at f n) ≡ o
+          → Group f (is_expr cs) n classes.Item (layouts.Def definitions.Function)
+          (body_of_def (def_in f (expr_index f cs) n o))
+      by_layout (Some (layouts.Def definitions.Function)) lay =
+          let x = slice_index (items_at f n) 4 in
+          group f cs k (is_expr cs) n classes.Item (layouts.Def definitions.Function) st lay (x ∷ [])
+          (λ a. absurd a, tt) each
+        where
+          some : 4 < length (items_at f n)
+          some = omega (arith, (function_fits f k.symbols n lay).0)
+
+          each : (x : ℕ) → Among x (slice_index (items_at f n) 4 ∷ [])
+              → (j : ℕ) × IsItem f n j x × (is_expr cs x ≡ true)
+          each x (inl e) =
+              let it =
+              inner f cs k n 4 classes.Item classes.Value (layouts.Def definitions.Function) st lt lay refl some in (
+                4,
+                (lt, some, e),
+                passes_expr f cs k.classes x (subst (λ m. StandsFor f m classes.Value) (sym e) it.stands),
+              )
+          each x (inr a) = absurd a
+      by_layout _ lay = no_group f cs k (is_expr cs) n classes.Item (layouts.Def definitions.Function)
 
   -- a branch of a form
   is_branch : (n j : ℕ) (c : Class) → StandsFor f n c → n < length f.nodes
@@ -287,10 +326,11 @@ module _ (f : Forms) (cs : List (Option Class)) (k : Known f cs) where
           → Stemming f (is_expr cs) layouts.Setq n (exprs_under f cs n)
       by_class (c, st, same) = by_layout c st (layout f classes.Action (kind_at f n)) same
 
--- the shapes of operators
+-- the shapes of operators and uses
 abbrev pub IsOperator : Layout → Type 0
 IsOperator (layouts.Apply op) = Unit {0}
 IsOperator layouts.Bit = Unit {0}
+IsOperator layouts.Use = Unit {0}
 IsOperator _ = ⊥
 
 pub record Operands (f : Forms) (cs : List (Option Class)) (n : ℕ) (zs : List ℕ) : Type 0 where
@@ -334,6 +374,13 @@ module _ (f : Forms) (cs : List (Option Class)) (k : Known f cs) where
           subst P (ap items_of e) (grouped layouts.Bit _ tt
           (dropped f cs k (is_expr cs) n 2 classes.Value classes.Value layouts.Bit st lt here
           (λ j h. not_first j classes.Numeral classes.Value h) (passes_expr f cs k.classes)))
+      by_layout items e (Some layouts.Use) lay =
+          let here : layout f classes.Value (kind_at f n) ≡ Some layouts.Use =
+          ap (λ x. layout f classes.Value x) e ∙ lay in
+          let P : List ℕ → Type 0 = λ xs. Operands f cs n (map (expr_index f cs) (drop 1 xs)) in
+          subst P (ap items_of e) (grouped layouts.Use _ tt
+          (dropped f cs k (is_expr cs) n 1 classes.Value classes.Value layouts.Use st lt here
+          (λ j h. not_head j classes.Value h) (passes_expr f cs k.classes)))
       by_layout items e _ lay = no_operands f cs n
 
       by_kind : (x : Kind) → kind_at f n ≡ x → Operands f cs n (operands (expr_kind f (expr_index f cs) x))
@@ -401,13 +448,21 @@ module _ (f : Forms) (cs : List (Option Class)) (k : Known f cs) where
                 held_apart f cs k (is_form f cs) n o classes.Item layouts.Always layouts.Par z (λ e. cc) (λ e. cc) h g
           ]
 
-  exprs_apart : Distinct (flat_map (args_under f cs) (expr_nodes f cs)
-      ++ flat_map (exprs_under f cs) (form_nodes f cs))
-  exprs_apart =
-      distinct_append _ _
+  exprs_apart : (xs : List ℕ) → Distinct xs → AreItems xs
+      → Distinct (flat_map (bodies_under f cs) xs ++ (flat_map (args_under f cs) (expr_nodes f cs)
+      ++ flat_map (exprs_under f cs) (form_nodes f cs)))
+  exprs_apart xs d are =
+      distinct_append _ _ bodies.distinct
+      (distinct_append _ _
       (distinct_flat (args_under f cs) (expr_nodes f cs) (below_distinct (is_expr cs))
-      (λ n a. (found n a).distinct) one) asked.distinct apart
+      (λ n a. (found n a).distinct) one) asked.distinct apart) bodies_rest
     where
+      bodies : AllHeld f (is_expr cs) classes.Item (layouts.Def definitions.Function)
+          (flat_map (bodies_under f cs) xs)
+      bodies =
+          all_held f cs k (is_expr cs) classes.Item (layouts.Def definitions.Function) (bodies_under f cs) xs d (λ x a.
+          let (lt, st) = are x a in function_group f cs k x lt st)
+
       found : (n : ℕ) → Among n (expr_nodes f cs) → Operands f cs n (args_under f cs n)
       found n a = let (lt, is) = below (is_expr cs) n a in operands_of n lt is
 
@@ -433,6 +488,24 @@ module _ (f : Forms) (cs : List (Option Class)) (k : Known f cs) where
           held_apart f cs k (is_expr cs) n o classes.Value l layouts.Setq z (λ e. subst IsOperator e is)
           (λ e. subst IsOperator e is) h g
 
+      bodies_rest : (z : ℕ) → Among z (flat_map (bodies_under f cs) xs)
+          → Among z (flat_map (args_under f cs) (expr_nodes f cs)
+          ++ flat_map (exprs_under f cs) (form_nodes f cs)) → ⊥
+      bodies_rest z a b =
+          let function : Layout = layouts.Def definitions.Function in
+          let (n, h) = bodies.held z a in
+          elim (among_append z (flat_map (args_under f cs) (expr_nodes f cs)) _ b) [
+            | inl operand ↦
+                let (o, in_o, here) = among_flat (args_under f cs) z (expr_nodes f cs) operand in
+                let (l, is, g) = (found o in_o).held z here in
+                let same : function ≡ l =
+                one_shape f cs k (is_expr cs) n o classes.Item classes.Value function l z h g in
+                subst IsOperator (sym same) is
+            | inr under ↦
+                let (o, g) = asked.held z under in
+                held_apart f cs k (is_expr cs) n o classes.Item function layouts.Setq z (λ e. cc) (λ e. cc) h g
+          ]
+
   pub forms_once : (xs : List ℕ) → Distinct xs → AreItems xs
       → is_distinct (form_places (map (formed f cs) (form_nodes f cs))
       (flat_map (always_at f (form_index f cs)) xs) (filter_map (process_at f (form_index f cs)) xs)) ≡ true
@@ -443,19 +516,26 @@ module _ (f : Forms) (cs : List (Option Class)) (k : Known f cs) where
       let forms = map (formed f cs) (form_nodes f cs) in
       let e : form_places forms always processes ≡ always ++ (roots ++ flat_map (forms_under f cs) (form_nodes f cs)) =
       ap (λ ys. always ++ (ys ++ flat_map (λ (x : Form). inner_forms x.kind) forms))
-      (roots_mapped (process_at f (form_index f cs)) xs)
+      (held_mapped (λ (q : Process). q.forms) (process_at f (form_index f cs)) xs)
       ∙ ap (λ ys. always ++ (roots ++ ys))
       (flat_map-map (λ (x : Form). inner_forms x.kind) (formed f cs) (form_nodes f cs)) in
       ap is_distinct e ∙ passes_distinct _ (forms_apart xs d are)
 
-  pub exprs_once : is_distinct
-      (expr_places (map (expr_at f (expr_index f cs)) (expr_nodes f cs)) (map (formed f cs) (form_nodes f cs))) ≡ true
-  exprs_once =
+  pub exprs_once : (xs : List ℕ) → Distinct xs → AreItems xs
+      → is_distinct (expr_places (filter_map (def_at f (expr_index f cs)) xs)
+      (map (expr_at f (expr_index f cs)) (expr_nodes f cs)) (map (formed f cs) (form_nodes f cs))) ≡ true
+  exprs_once xs d are =
+      let defs = filter_map (def_at f (expr_index f cs)) xs in
+      let bodies = flat_map (bodies_under f cs) xs in
       let exprs = map (expr_at f (expr_index f cs)) (expr_nodes f cs) in
       let forms = map (formed f cs) (form_nodes f cs) in
       let args = flat_map (args_under f cs) (expr_nodes f cs) in
-      let e : expr_places exprs forms ≡ args ++ flat_map (exprs_under f cs) (form_nodes f cs) =
-      ap (λ ys. ys ++ flat_map (λ (x : Form). exprs_in x.kind) forms)
+      let e : expr_places defs exprs forms ≡ bodies ++ (args ++ flat_map (exprs_under f cs) (form_nodes f cs)) =
+      ap (λ ys. ys ++ (flat_map (λ (x : Expr). operands x.kind) exprs
+      ++ flat_map (λ (x : Form). exprs_in x.kind) forms))
+      (held_mapped (λ (x : Def). body_in x.what) (def_at f (expr_index f cs)) xs)
+      ∙ ap (λ ys. bodies ++ (ys ++ flat_map (λ (x : Form). exprs_in x.kind) forms))
       (flat_map-map (λ (x : Expr). operands x.kind) (expr_at f (expr_index f cs)) (expr_nodes f cs))
-      ∙ ap (λ ys. args ++ ys) (flat_map-map (λ (x : Form). exprs_in x.kind) (formed f cs) (form_nodes f cs)) in
-      ap is_distinct e ∙ passes_distinct _ exprs_apart
+      ∙ ap (λ ys. bodies ++ (args ++ ys))
+      (flat_map-map (λ (x : Form). exprs_in x.kind) (formed f cs) (form_nodes f cs)) in
+      ap is_distinct e ∙ passes_distinct _ (exprs_apart xs d are)

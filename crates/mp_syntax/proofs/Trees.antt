@@ -9,13 +9,14 @@ use Rattle.mp_shapes.specs.declared.table.Class.{Class}
 use Rattle.mp_shapes.specs.declared.table.Class.TheVariants as classes
 use Rattle.mp_shapes.specs.declared.table.Layout.TheVariants as layouts
 use Rattle.mp_shapes.specs.Standing.{StandsFor, root}
-use Rattle.mp_program.specs.declared.program.Expr.{Expr}
 use Rattle.mp_program.specs.declared.program.Form.{Form}
 use Rattle.mp_program.specs.declared.program.Process.{Process}
-use Rattle.mp_program.specs.Tree.{are_low, expr_heights, form_heights}
-use Rattle.mp_program.specs.Tree.{inner as inner_forms, is_tree, operands}
+use Rattle.mp_program.specs.Tree.{are_low, form_heights, inner as inner_forms}
+use Rattle.mp_written.specs.declared.program.Def.{Def}
+use Rattle.mp_written.specs.declared.program.Expr.{Expr}
+use Rattle.mp_written.specs.Tree.{expr_heights, is_tree, operands}
 use Rattle.mp_entries.specs.Entries.{expr_at, expr_index, form_index, is_expr, is_form}
-use Rattle.mp_syntax.specs.Shape.{always_at, process_at}
+use Rattle.mp_syntax.specs.Shape.{always_at, def_at, process_at}
 use Rattle.mp_syntax.proofs.Distinct.{Among, Distinct, among_drop, distinct_drop}
 use Rattle.mp_syntax.proofs.Fitting.{Known, inner, is_program, not_number, root_inside}
 use Rattle.mp_syntax.proofs.Heights.{Under, child, grandchild, all_low}
@@ -54,6 +55,7 @@ module _ (f : Forms) (cs : List (Option Class)) (k : Known f cs) where
       subst P (sym e) (it.inside, it.stands)
 
   pub whole_tree : (r : ℕ) (rs : List ℕ) → f.roots ≡ r ∷ rs → is_tree
+      (filter_map (def_at f (expr_index f cs)) (drop 3 (items_of (kind_at f r))))
       (map (expr_at f (expr_index f cs)) (expr_nodes f cs))
       (map (formed f cs) (form_nodes f cs))
       (flat_map (always_at f (form_index f cs)) (drop 3 (items_of (kind_at f r))))
@@ -65,22 +67,24 @@ module _ (f : Forms) (cs : List (Option Class)) (k : Known f cs) where
       (nodes_distinct f cs k (is_form f cs) r (root_inside f k.sound r rs is)) in
       and_from _ _
       (and_from _ _
-      (and_from _ _ (exprs_once f cs k) (forms_once f cs k items distinct (items_stand r rs is))) low_exprs)
+      (and_from _ _ (exprs_once f cs k items distinct (items_stand r rs is))
+      (forms_once f cs k items distinct (items_stand r rs is))) low_exprs)
       low_forms
 
-same_tree : (es xs : List Expr) (fs gs : List Form) (a b : List ℕ) (ps qs : List Process)
-    → es ≡ xs → fs ≡ gs → a ≡ b → ps ≡ qs → is_tree es fs a ps ≡ is_tree xs gs b qs
-same_tree es xs fs gs a b ps qs e1 e2 e3 e4 =
-    ap (λ x. is_tree x fs a ps) e1 ∙ ap (λ x. is_tree xs x a ps) e2 ∙ ap (λ x. is_tree xs gs x ps) e3
-    ∙ ap (is_tree xs gs b) e4
+same_tree : (c d : List Def) (es xs : List Expr) (fs gs : List Form) (a b : List ℕ) (ps qs : List Process)
+    → c ≡ d → es ≡ xs → fs ≡ gs → a ≡ b → ps ≡ qs → is_tree c es fs a ps ≡ is_tree d xs gs b qs
+same_tree c d es xs fs gs a b ps qs e0 e1 e2 e3 e4 =
+    ap (λ x. is_tree x es fs a ps) e0 ∙ ap (λ x. is_tree d x fs a ps) e1 ∙ ap (λ x. is_tree d xs x a ps) e2
+    ∙ ap (λ x. is_tree d xs gs x ps) e3 ∙ ap (is_tree d xs gs b) e4
 
 -- the same, of lists that are these
 pub tree_at : (f : Forms) (cs : List (Option Class)) → Known f cs → (r : ℕ) (rs : List ℕ) → f.roots ≡ r ∷ rs
-    → (es : List Expr) (fs : List Form) (always : List ℕ) (processes : List Process)
+    → (defs : List Def) (es : List Expr) (fs : List Form) (always : List ℕ) (processes : List Process)
+    → defs ≡ filter_map (def_at f (expr_index f cs)) (drop 3 (items_of (kind_at f r)))
     → es ≡ map (expr_at f (expr_index f cs)) (expr_nodes f cs)
     → fs ≡ map (formed f cs) (form_nodes f cs)
     → always ≡ flat_map (always_at f (form_index f cs)) (drop 3 (items_of (kind_at f r)))
     → processes ≡ filter_map (process_at f (form_index f cs)) (drop 3 (items_of (kind_at f r)))
-    → is_tree es fs always processes ≡ true
-tree_at f cs k r rs is es fs always processes e1 e2 e3 e4 =
-    same_tree es _ fs _ always _ processes _ e1 e2 e3 e4 ∙ whole_tree f cs k r rs is
+    → is_tree defs es fs always processes ≡ true
+tree_at f cs k r rs is defs es fs always processes e0 e1 e2 e3 e4 =
+    same_tree defs _ es _ fs _ always _ processes _ e0 e1 e2 e3 e4 ∙ whole_tree f cs k r rs is

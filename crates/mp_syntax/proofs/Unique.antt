@@ -11,13 +11,14 @@ use Rattle.form_reader.specs.declared.forms.Forms.{Forms}
 use Rattle.form_reader.specs.Sound.{node, kind_at, items_of}
 use Rattle.mp_shapes.specs.declared.table.Class.{Class}
 use Rattle.mp_shapes.specs.Standing.{E10, AreClasses}
-use Rattle.mp_program.specs.declared.program.Def.{Def}
-use Rattle.mp_program.specs.declared.program.Expr.{Expr}
 use Rattle.mp_program.specs.declared.program.Form.{Form}
 use Rattle.mp_program.specs.declared.program.Process.{Process}
-use Rattle.mp_program.specs.declared.program.Program.{Program}
 use Rattle.mp_program.specs.Fits as fits
-use Rattle.mp_program.specs.Tree.{is_tree}
+use Rattle.mp_written.specs.declared.program.Def.{Def}
+use Rattle.mp_written.specs.declared.program.Expr.{Expr}
+use Rattle.mp_written.specs.declared.program.Program.{Program}
+use Rattle.mp_written.specs.Fits as written
+use Rattle.mp_written.specs.Tree.{is_tree}
 use Rattle.mp_entries.specs.Entries.{expr_at, expr_index, form_at, form_index, is_expr, is_form, name_at, nodes_below}
 use Rattle.mp_entries.specs.Entries.{number_at}
 use Rattle.mp_syntax.specs.Shape.{always_at, def_at, process_at, E11, IsShape}
@@ -39,7 +40,7 @@ abbrev Parts : Type 0
 Parts = Place × List ℕ × ℕ × List Def × List Expr × List Form × List ℕ × List Process
 
 abbrev Fit : Parts → Type 0
-Fit t = (fits.program_fits t.2 t.1 t.3 t.4 t.5 t.6 t.7 ≡ true) × (is_tree t.4 t.5 t.6 t.7 ≡ true)
+Fit t = (written.program_fits t.2 t.1 t.3 t.4 t.5 t.6 t.7 ≡ true) × (is_tree t.3 t.4 t.5 t.6 t.7 ≡ true)
 
 abbrev made : (t : Parts) → Fit t → Program
 made t h =
@@ -69,10 +70,10 @@ same_made s t e =
   where
     one_made : (h g : Fit s) → made s h ≡ made s g
     one_made h g =
-        let first : Fit s → (fits.program_fits s.2 s.1 s.3 s.4 s.5 s.6 s.7 ≡ true) → Fit s = λ x y. (y, x.1) in
-        let second : Fit s → (is_tree s.4 s.5 s.6 s.7 ≡ true) → Fit s = λ x y. (x.0, y) in
-        ap (λ y. made s (first h y)) (one_proof (fits.program_fits s.2 s.1 s.3 s.4 s.5 s.6 s.7) h.0 g.0)
-        ∙ ap (λ y. made s (second g y)) (one_proof (is_tree s.4 s.5 s.6 s.7) h.1 g.1)
+        let first : Fit s → (written.program_fits s.2 s.1 s.3 s.4 s.5 s.6 s.7 ≡ true) → Fit s = λ x y. (y, x.1) in
+        let second : Fit s → (is_tree s.3 s.4 s.5 s.6 s.7 ≡ true) → Fit s = λ x y. (x.0, y) in
+        ap (λ y. made s (first h y)) (one_proof (written.program_fits s.2 s.1 s.3 s.4 s.5 s.6 s.7) h.0 g.0)
+        ∙ ap (λ y. made s (second g y)) (one_proof (is_tree s.3 s.4 s.5 s.6 s.7) h.1 g.1)
 
 same_parts : (s t : Parts) → s.0 ≡ t.0 → s.1 ≡ t.1 → s.2 ≡ t.2 → s.3 ≡ t.3 → s.4 ≡ t.4 → s.5 ≡ t.5 → s.6 ≡ t.6
     → s.7 ≡ t.7 → s ≡ t
@@ -93,7 +94,7 @@ spelled f r cs = (
   (node f r).place,
   name_at f (slice_index (items_of (kind_at f r)) 1),
   number_at f (slice_index (items_of (kind_at f r)) 2),
-  filter_map (def_at f) (drop 3 (items_of (kind_at f r))),
+  filter_map (def_at f (expr_index f cs)) (drop 3 (items_of (kind_at f r))),
   map (expr_at f (expr_index f cs)) (nodes_below (is_expr cs) (length f.nodes)),
   map (form_at f (expr_index f cs) (form_index f cs)) (nodes_below (is_form f cs) (length f.nodes)),
   flat_map (always_at f (form_index f cs)) (drop 3 (items_of (kind_at f r))),
@@ -123,8 +124,9 @@ fronts a b c d e g h i is =
 
 width_bounds : (p : Program) → (1 ≤ p.width) × (p.width ≤ 64)
 width_bounds p =
-    let h = fronts (nat_le 1 p.width) (nat_le p.width 64) (fits.is_symbol p.name) (list_all fits.def_fits p.defs)
-    (fits.exprs_fit (length p.exprs) 0 p.exprs)
+    let h = fronts (nat_le 1 p.width) (nat_le p.width 64) (fits.is_symbol p.name)
+    (list_all (written.def_fits (length p.exprs)) p.defs)
+    (written.exprs_fit (length p.exprs) 0 p.exprs)
     (fits.forms_fit (length p.exprs) (length p.forms) 0 p.forms) (list_all (λ f. nat_lt f (length p.forms)) p.always)
     (list_all (fits.process_fits (length p.forms)) p.processes) p.fits in
     (leb-true 1 p.width h.0, leb-true p.width 64 h.1)

@@ -12,7 +12,7 @@ use Rattle.form_reader.specs.declared.forms.Forms.{Forms}
 use Rattle.form_reader.specs.Sound.{IsSound, HasSymbols, node, kind_at, items_of}
 use Rattle.mp_shapes.specs.declared.table.Class.{Class}
 use Rattle.mp_shapes.specs.Standing.{AreClasses, E10, IsFirstE10}
-use Rattle.mp_program.specs.declared.program.Program.{Program}
+use Rattle.mp_written.specs.declared.program.Program.{Program}
 use Rattle.mp_entries.specs.Entries.{number_at, name_at, expr_at, form_at, expr_index, form_index, is_expr, is_form}
 use Rattle.mp_entries.specs.Entries.{nodes_below}
 use Rattle.mp_syntax.specs.Shape.{IsShape, IsFirst, def_at, always_at, process_at}
@@ -34,7 +34,7 @@ program_of f cs known r one low high = (
     place = (node f r).place;
     name = name_at f (slice_index (items_of (kind_at f r)) 1);
     width = number_at f (slice_index (items_of (kind_at f r)) 2);
-    defs = filter_map (def_at f) (drop 3 (items_of (kind_at f r)));
+    defs = filter_map (def_at f (expr_index f cs)) (drop 3 (items_of (kind_at f r)));
     exprs = map (expr_at f (expr_index f cs)) (nodes_below (is_expr cs) (length f.nodes));
     forms = map (form_at f (expr_index f cs) (form_index f cs)) (nodes_below (is_form f cs) (length f.nodes));
     always = flat_map (always_at f (form_index f cs)) (drop 3 (items_of (kind_at f r)));

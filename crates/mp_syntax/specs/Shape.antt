@@ -1,4 +1,5 @@
--- The program that forms spell: one entry for each node that stands for an expression or a form, and one for each item.
+-- The program that forms spell, as it is written: one entry for each node that stands for an expression or a form, and
+-- one for each item.
 use Rattle.std.specs.Prelude.{◌≡◌, ◌⊎◌, ℕ, ◌+◌, ◌<◌, List, [], ◌∷◌, cond, not, length, map}
 use Rattle.std.specs.Prelude.{drop, Option, Some, None, slice_index}
 use Rattle.std.specs.List.{filter, filter_map, flat_map}
@@ -19,34 +20,41 @@ use Rattle.mp_shapes.specs.Layout.{is_symbol, layout}
 use Rattle.mp_shapes.specs.Standing.{AreClasses, E10, IsFirstE10}
 use Rattle.mp_entries.specs.Entries.{name_at, number_at, is_expr, is_form, nodes_below, expr_at, form_at}
 use Rattle.mp_entries.specs.Entries.{expr_index, form_index}
-use Rattle.mp_program.specs.declared.program.What.{What}
-use Rattle.mp_program.specs.declared.program.What.TheVariants as whats
 use Rattle.mp_program.specs.declared.program.Way.TheVariants.{Input, Output, Internal}
 use Rattle.mp_program.specs.declared.program.Pin.{Pin}
-use Rattle.mp_program.specs.declared.program.Def.{Def}
 use Rattle.mp_program.specs.declared.program.Label.{Label}
 use Rattle.mp_program.specs.declared.program.Process.{Process}
-use Rattle.mp_program.specs.declared.program.Program.{Program}
+use Rattle.mp_written.specs.declared.program.What.{What}
+use Rattle.mp_written.specs.declared.program.What.TheVariants as whats
+use Rattle.mp_written.specs.declared.program.Arg.{Arg}
+use Rattle.mp_written.specs.declared.program.Def.{Def}
+use Rattle.mp_written.specs.declared.program.Program.{Program}
 
--- DEF, by its items
+-- DEF, by its items, where expr gives the index of the expression at a node
 abbrev pub pin_at : Forms → ℕ → Pin
 pin_at f n = record { place = (node f n).place; number = number_at f n }
 
-abbrev pub what_of : Forms → List ℕ → Definition → What
-what_of f items definitions.Power = whats.Power
-what_of f items definitions.Ground = whats.Ground
-what_of f items definitions.Phia = whats.Phia
-what_of f items definitions.Phib = whats.Phib
-what_of f items definitions.Phic = whats.Phic
-what_of f items definitions.Constant = whats.Constant (number_at f (slice_index items 3))
-what_of f items definitions.Register = whats.Register
-what_of f items definitions.Flag = whats.Flag
-what_of f items definitions.PortInput = whats.Port Input
-what_of f items definitions.PortOutput = whats.Port Output
-what_of f items definitions.PortInternal = whats.Port Internal
-what_of f items definitions.SignalInput = whats.Signal Input
-what_of f items definitions.SignalOutput = whats.Signal Output
-what_of f items definitions.SignalInternal = whats.Signal Internal
+abbrev pub arg_at : Forms → ℕ → Arg
+arg_at f n = record { place = (node f n).place; name = name_at f n }
+
+-- the arguments of a function are in a list of their own, and its body is the last item
+abbrev pub what_of : Forms → (ℕ → ℕ) → List ℕ → Definition → What
+what_of f expr items definitions.Power = whats.Power
+what_of f expr items definitions.Ground = whats.Ground
+what_of f expr items definitions.Phia = whats.Phia
+what_of f expr items definitions.Phib = whats.Phib
+what_of f expr items definitions.Phic = whats.Phic
+what_of f expr items definitions.Constant = whats.Constant (number_at f (slice_index items 3))
+what_of f expr items definitions.Register = whats.Register
+what_of f expr items definitions.Flag = whats.Flag
+what_of f expr items definitions.PortInput = whats.Port Input
+what_of f expr items definitions.PortOutput = whats.Port Output
+what_of f expr items definitions.PortInternal = whats.Port Internal
+what_of f expr items definitions.SignalInput = whats.Signal Input
+what_of f expr items definitions.SignalOutput = whats.Signal Output
+what_of f expr items definitions.SignalInternal = whats.Signal Internal
+what_of f expr items definitions.Function =
+    whats.Function (map (arg_at f) (items_of (kind_at f (slice_index items 3)))) (expr (slice_index items 4))
 
 -- the pins of a port are in a list of their own
 abbrev pub pin_nodes : Forms → List ℕ → Definition → List ℕ
@@ -62,12 +70,12 @@ pin_nodes f items definitions.SignalOutput = slice_index items 4 ∷ []
 pin_nodes f items _ = []
 
 -- the symbol behind the head is the name; where a number stands there, the name is empty
-abbrev pub def_of : Forms → ℕ → List ℕ → Definition → Def
-def_of f n items d =
+abbrev pub def_of : Forms → (ℕ → ℕ) → ℕ → List ℕ → Definition → Def
+def_of f expr n items d =
     record {
       place = (node f n).place;
       name = name_at f (slice_index items 1);
-      what = what_of f items d;
+      what = what_of f expr items d;
       pins = map (pin_at f) (pin_nodes f items d);
     }
 
@@ -89,9 +97,9 @@ process_of f form n items = record {
 }
 
 -- ITEM, by its shape
-abbrev pub def_in : Forms → ℕ → Option Layout → Option Def
-def_in f n (Some (layouts.Def d)) = Some (def_of f n (items_of (kind_at f n)) d)
-def_in f n _ = None
+abbrev pub def_in : Forms → (ℕ → ℕ) → ℕ → Option Layout → Option Def
+def_in f expr n (Some (layouts.Def d)) = Some (def_of f expr n (items_of (kind_at f n)) d)
+def_in f expr n _ = None
 
 abbrev pub always_in : Forms → (ℕ → ℕ) → ℕ → Option Layout → List ℕ
 always_in f form n (Some layouts.Always) = map form (drop 1 (items_of (kind_at f n)))
@@ -101,8 +109,8 @@ abbrev pub process_in : Forms → (ℕ → ℕ) → ℕ → Option Layout → Op
 process_in f form n (Some layouts.Process) = Some (process_of f form n (items_of (kind_at f n)))
 process_in f form n _ = None
 
-abbrev pub def_at : Forms → ℕ → Option Def
-def_at f n = def_in f n (layout f classes.Item (kind_at f n))
+abbrev pub def_at : Forms → (ℕ → ℕ) → ℕ → Option Def
+def_at f expr n = def_in f expr n (layout f classes.Item (kind_at f n))
 
 abbrev pub always_at : Forms → (ℕ → ℕ) → ℕ → List ℕ
 always_at f form n = always_in f form n (layout f classes.Item (kind_at f n))
@@ -120,7 +128,7 @@ pub record IsShape (f : Forms) (p : Program) : Type 0 where
   pub place : p.place ≡ (node f root).place
   pub name : p.name ≡ name_at f (slice_index (items_of (kind_at f root)) 1)
   pub width : p.width ≡ number_at f (slice_index (items_of (kind_at f root)) 2)
-  pub defs : p.defs ≡ filter_map (def_at f) (drop 3 (items_of (kind_at f root)))
+  pub defs : p.defs ≡ filter_map (def_at f (expr_index f classes)) (drop 3 (items_of (kind_at f root)))
   pub exprs : p.exprs ≡ map (expr_at f (expr_index f classes)) (nodes_below (is_expr classes) (length f.nodes))
   pub forms : p.forms
       ≡ map (form_at f (expr_index f classes) (form_index f classes)) (nodes_below (is_form f classes) (length f.nodes))

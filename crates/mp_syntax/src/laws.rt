@@ -4,7 +4,7 @@ ghost use Rattle.std.specs.Prelude.{◌≡◌, ◌⊎◌, ℕ};
 ghost use Rattle.form_reader.specs.declared.forms.Forms.{Forms};
 ghost use Rattle.form_reader.specs.Sound.{IsSound, HasSymbols};
 ghost use Rattle.mp_base.specs.declared.refusal.Place.{Place};
-ghost use Rattle.mp_program.specs.declared.program.Program.{Program};
+ghost use Rattle.mp_written.specs.declared.program.Program.{Program};
 ghost use Rattle.mp_shapes.specs.Standing.{E10};
 ghost use Rattle.mp_syntax.specs.Shape.{E11, IsFirst, IsShape};
 

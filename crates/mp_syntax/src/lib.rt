@@ -1,4 +1,4 @@
-//! The program that forms spell.
+//! The program that forms spell, as it is written.
 #![tactic(auto)]
 
 mod defs;
@@ -6,7 +6,6 @@ mod items;
 pub mod laws;
 mod parser;
 
-pub use mp_program::{
-    Branch, Def, Expr, ExprKind, Form, FormKind, Label, Pin, Process, Program, Way, What,
-};
+pub use mp_program::{Branch, Form, FormKind, Label, Pin, Process, Way};
+pub use mp_written::{Arg, Def, Expr, ExprKind, Program, What};
 pub use parser::parse;

@@ -17,8 +17,9 @@ use mp_base::{Broken, Family, List, Name, Place, Refusal, Rule, Spot};
 use mp_entries::{
     Ranks, elements_at, exprs_of, forms_of, item, items_at, name_at, node_at, number_at, ranks_of,
 };
-use mp_program::{Def, Expr, Form, Process, Program};
+use mp_program::{Form, Process};
 use mp_shapes::{Class, judge_shapes};
+use mp_written::{Def, Expr, Program};
 use std::alloc::{AllocError, Global};
 
 fn wrong_width(place: Place) -> Refusal
@@ -41,16 +42,22 @@ struct Head {
     defs: List<Def>,
 }
 
-fn head_of(alloc: Global, forms: &Forms, name: u32, items: &[u32]) -> Result<Head, AllocError>
+fn head_of(
+    alloc: Global,
+    forms: &Forms,
+    ranks: &List<u32>,
+    name: u32,
+    items: &[u32],
+) -> Result<Head, AllocError>
     requires sound { IsSound forms.now }
     requires named { name < length forms.now.nodes }
     requires inside { (k : ℕ) → k < length items.now → slice_index items.now k < length forms.now.nodes }
     ensures name { IfOk result (λ h. h.name ≡ name_at forms.now name) }
-    ensures defs { IfOk result (λ h. h.defs ≡ filter_map (def_at forms.now) items.now) }
+    ensures defs { IfOk result (λ h. h.defs ≡ filter_map (def_at forms.now (slice_index ranks.now)) items.now) }
 {
     Ok(Head {
         name: name_at(alloc, forms, name)?,
-        defs: defs_of(alloc, forms, items)?,
+        defs: defs_of(alloc, forms, ranks, items)?,
     })
 }
 
@@ -127,7 +134,7 @@ fn program_of(
     let rest = elements_at(forms, root);
     let entries = entries_of(alloc, forms, classes, &ranks)?;
     let active = active_of(alloc, forms, &ranks.forms, rest)?;
-    let head = head_of(alloc, forms, item(items, 1), rest)?;
+    let head = head_of(alloc, forms, &ranks.exprs, item(items, 1), rest)?;
     Ok(Program {
         place: node_at(forms, root).place,
         name: head.name,
@@ -140,8 +147,8 @@ fn program_of(
     })
 }
 
-/// The program that forms spell. E10 at the first node that has no shape of what it stands for, at a second form, or at
-/// the end where there is no form; then E11 at the word length, where it isn't 1 to 64.
+/// The program that forms spell, as it is written. E10 at the first node that has no shape of what it stands for, at a
+/// second form, or at the end where there is no form; then E11 at the word length, where it isn't 1 to 64.
 pub fn parse(alloc: Global, forms: &Forms) -> Result<Program, Refusal>
     requires sound { IsSound forms.now }
     requires symbols { HasSymbols forms.now }

@@ -1,7 +1,7 @@
 use Rattle.std.proofs.Common.{◌≡◌, ◌<◌, ◌++◌, ◌∷◌, [], ℕ, None, length, sym, ◌∙◌, ap, map, arith}
 use Rattle.std.proofs.Common.{slice_index, slice_index_or}
 use Rattle.std.proofs.lemmas.List.{get_or_read}
-use Rattle.mp_program.specs.declared.program.Expr.{Expr}
+use Rattle.mp_written.specs.declared.program.Expr.{Expr}
 use Rattle.mp_entries.specs.Entries.{expr_at, is_expr, nodes_below, stands_for_expr}
 use Rattle.mp_entries.proofs.Numbering.{entries_with, entries_without}
 use Rattle.mp_entries.proofs.exprs.exprs_of.Goals.{then-is_expr+in_ok-expr_of+in_ok-push, else-is_expr}

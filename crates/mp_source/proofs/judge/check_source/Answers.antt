@@ -1,13 +1,12 @@
-use Rattle.std.proofs.Common.{◌≡◌, sym, subst}
 use Rattle.mp_base.specs.declared.refusal.Family.TheVariants.{E}
 use Rattle.mp_base.specs.Refuses.{RefusesAt}
 use Rattle.form_reader.specs.Sound.{IsSound}
 use Rattle.form_reader.specs.Spelling.{Spells}
 use Rattle.form_reader.specs.Rules.{RefusesFirst as RefusesText}
 use Rattle.mp_syntax.specs.Shape.{IsShape, IsFirst as IsFirstOfForms}
-use Rattle.mp_rules.specs.Breaking.{IsUnbroken, RefusesFirst as RefusesProgram}
+use Rattle.mp_written.specs.Expansion.{IsExpansion}
+use Rattle.written_rules.specs.Breaking.{IsUnbroken, RefusesFirst as RefusesProgram}
 use Rattle.mp_checker.specs.Checking.{CheckedProgram}
-use Rattle.mp_source.specs.Source.{IsSource}
 use Rattle.mp_source.proofs.Judged.{of_text, of_forms, of_program}
 use Rattle.mp_source.proofs.judge.check_source.Goals as goal
 
@@ -27,12 +26,15 @@ pub returns-in-Ok-check-clause-source : goal.returns-in-Ok-check-clause-source
 returns-in-Ok-check-clause-source c =
     let spells : Spells c.args.text.now c.in-Ok.forms = c.in-Ok.ensures.spelled in
     let shape : IsShape c.in-Ok.forms c.in-Ok-parse.program = c.in-Ok-parse.ensures.shape in
-    let is : c.in-Ok-check.checked.program ≡ c.in-Ok-parse.program = c.in-Ok-check.ensures.program in
-    let unbroken : IsUnbroken c.in-Ok-parse.program = c.in-Ok-check.ensures.judged in
-    subst (IsSource c.args.text.now) (sym is) (record {
+    let kept : IsUnbroken c.in-Ok-parse.program = c.in-Ok-check.ensures.judged in
+    let expansion : IsExpansion c.in-Ok-parse.program c.in-Ok-check.checked.program = c.in-Ok-check.ensures.expanded in
+    record {
+      written = c.in-Ok-parse.program;
       spells = record { forms = c.in-Ok.forms; spelled = spells; shape = shape };
-      unbroken = unbroken;
-    })
+      kept = kept;
+      expansion = expansion;
+      unbroken = c.rules_are_kept.ensures c.in-Ok-parse.program c.in-Ok-check.checked.program kept expansion;
+    }
 
 pub returns-in-Ok-check-clause-judged : goal.returns-in-Ok-check-clause-judged
 returns-in-Ok-check-clause-judged c = (c.in-Ok-check.checked.program, returns-in-Ok-check-clause-source c)

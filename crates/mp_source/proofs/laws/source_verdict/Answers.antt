@@ -7,6 +7,7 @@ returns c = a_verdict (record {
   sound = c.spelled_is_sound.ensures.sound;
   symbols = c.spelled_is_sound.ensures.symbols;
   forms = c.forms_verdict.ensures;
-  programs = c.program_verdict.ensures;
+  programs = c.written_verdict.ensures;
+  expanded = c.has_expansion.ensures;
   placed = c.broken_at_a_place.ensures;
 })

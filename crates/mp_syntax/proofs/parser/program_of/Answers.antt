@@ -19,8 +19,10 @@ invariant_of-result c =
     let name : c.in_ok-head.head.name ≡ name_at f (slice_index items 1) =
     c.in_ok-head.ensures.name
     ∙ ap (name_at f) (c.item.ensures ∙ ap (λ xs. slice_index xs 1) c.items_at-items.ensures.value) in
-    let defs : c.in_ok-head.head.defs ≡ filter_map (def_at f) (drop 3 items) =
-    c.in_ok-head.ensures.defs ∙ ap (filter_map (def_at f)) c.elements_at-rest.ensures.value in
+    let defs : c.in_ok-head.head.defs ≡ filter_map (def_at f (expr_index f cs)) (drop 3 items) =
+    c.in_ok-head.ensures.defs
+    ∙ ap (filter_map (def_at f (slice_index c.in_ok-ranks.ranks.exprs))) c.elements_at-rest.ensures.value
+    ∙ ap (λ ranks. filter_map (def_at f (slice_index ranks)) (drop 3 items)) c.in_ok-ranks.ensures.exprs in
     let exprs : c.in_ok-entries.entries.exprs
     ≡ map (expr_at f (expr_index f cs)) (nodes_below (is_expr cs) (length f.nodes)) =
     c.in_ok-entries.ensures.exprs
@@ -48,6 +50,6 @@ invariant_of-result c =
       fits = fits_at f cs known c.args.root [] c.requires.one c.requires.low c.requires.high c.number_at.result
           head.name head.defs entries.exprs entries.forms active.always active.processes
           width name defs exprs forms always processes;
-      tree = tree_at f cs known c.args.root [] c.requires.one entries.exprs entries.forms
-          active.always active.processes exprs forms always processes;
+      tree = tree_at f cs known c.args.root [] c.requires.one head.defs entries.exprs entries.forms
+          active.always active.processes defs exprs forms always processes;
     }
