@@ -36,6 +36,9 @@ MEANS = {
     "E34": "the program keeps state and has no `reset`",
     "E35": "a supply or a phase isn't defined",
     "E36": "a process has no form",
+    "E37": "a use has not one operand for each argument of its function",
+    "E38": "a function or an argument has a name that means something else",
+    "E39": "a body names more than arguments, constants and functions",
     "E43": "a stack is deeper than 8",
     "E44": "the program weighs over 1024",
     "S1": "a line is in none of the forms of a stimulus",
@@ -60,6 +63,7 @@ HELPS = {
     "E33": "only registers and flags hold values from clock to clock",
     "E34": "add `(def reset signal input PIN)`, and set it in the first clock",
     "E36": "a process needs a form beside its labels",
+    "E39": "give the function an argument for it, and the use an operand",
     "S1": "write `in NAME`, `in NAME WIDTH`, `out NAME`, `out NAME WIDTH` or `clock NAME=N ..`",
 }
 BIT = "a bit of a word is `(bit NUMBER WORD)`; whether it is 0 is `(=0 WORD)`"
@@ -67,7 +71,9 @@ WORD = "no operator makes a word of a bit: use `(cond (BIT (setq NAME 1)))`"
 ENDED = "this one closed the first list of the file"
 CONSTANT = "this definition has to be `(def NAME constant NUMBER)`"
 NUMBER = " is no number: numbers are decimal, digits alone"
-VALUE = "an expression has to stand here, and none begins with "
+NO_FUNCTION = " names no function that may be used here"
+DEFINE = "define it, as in `(def NAME function (NAME ..) EXPRESSION)`"
+SORTS = "words: numbers, constants, registers, ports; bits: flags, signals, `t`, `f`, comparisons"
 SUPPLIES = "(def 1 power)"
 
 
@@ -128,10 +134,6 @@ ROWS = [
         F("E10", "(>>", "`>>` takes one operand; items behind it here: 2",
           help="a word is moved by one place: nest it to move it further"),
         F("E10", "(+ x x x", "`+` takes two operands; items behind it here: 3", help="nest it, as in `(+ (+ a b) c)`"),
-        F("E10", "(<=", VALUE + "`<=`", help="write `(not (< b a))` for a <= b"),
-        F("E10", "(> ", VALUE + "`>`", help="write `(< b a)` for a > b"),
-        F("E10", "(* ", VALUE + "`*`",
-          help="there is no such operator: add, subtract and move bits, a step in each clock"),
         F("E10", "(if", "a form has to stand here, and none begins with `if`",
           help="write `(cond (GUARD FORM ..) (t FORM ..))`")]),
     ("names.mp", True, [
@@ -205,7 +207,7 @@ ROWS = [
         F("E10", "(def x", "this definition has to be `(def NAME port input (PIN ..))`"),
         F("E10", "(def y", "this definition has to be `(def NAME signal output PIN)`"),
         F("E10", "(def z",
-          "this definition has to be `(def NAME register)`, or with `flag`, `constant`, `port` or `signal`"),
+          "this definition has to be `(def NAME register)`, or with `flag`, `constant`, `port`, `signal` or `function`"),
         F("E10", "(alway ", "a `def`, `always` or `process` has to stand here, and none begins with `alway`",
           help="did you mean `always`?"),
         F("E10", "(+", "a form has to stand here; `+` gives a value, as in `(setq NAME (..))`"),
@@ -222,6 +224,28 @@ ROWS = [
         F("E35", "(program", "missing: `(def PIN ground)` `(def PIN phia)` `(def PIN phib)` `(def PIN phic)`")]),
     # 2 of the input port, 4 of the output port, and of each setq 4 and 14 of its `-`
     ("heavy.mp", True, [F("E44", "(program", f"this program weighs {2 + 4 + 60 * 18}")]),
+    ("functions.mp", True, [
+        F("E21", ("(< v (", "later"), "`later`" + NO_FUNCTION, ("(def later", "this stands no earlier"),
+          "a function uses those alone that are defined before it"),
+        F("E38", "(def and", "`and` is an operator"),
+        F("E38", ("and function (v ", "t"), "`t` is a truth value"),
+        F("E38", ("and function (v t ", "k"), "`k` is a constant", ("(def k", "defined here")),
+        F("E38", ("and function (v t k ", "v"), "`v` again", (("and function (", "v"), "the first one")),
+        F("E39", ("(word-and v ", "x"), "`x` is an input port", ("(def x", "defined here")),
+        F("E37", "(twice x k", "`twice` takes operands: 1; here: 2", ("(def twice", "defined here")),
+        F("E21", "twise", "`twise`" + NO_FUNCTION, ("(def twice", "this has a name like it"), "did you mean `twice`?"),
+        F("E22", "(less x", "this is a bit, and a word is wanted as the value of `y`", ("(def less", "a function"), WORD),
+        F("E22", ("(+ ", "twice 1"), "`twice` is a function, which has a value where it is used: `(NAME WORD ..)`",
+          help=SORTS),
+        F("E21", ("(setq b (", "<="), "`<=`" + NO_FUNCTION, help="write `(not (< b a))` for a <= b"),
+        F("E22", ("(setq ", "twice x)"), "`twice` is a function, which has a value where it is used: `(NAME WORD ..)`",
+          help=SORTS),
+        F("E21", ("(setq y (", "y k)"), "`y`" + NO_FUNCTION, ("(def y", "an output port"), DEFINE),
+        F("E22", ("(twice ", "b)"), "this is a bit, and a word is wanted as an operand of `twice`",
+          ("(def b", "an output signal"), WORD),
+        F("E21", ("(setq b (", "setq x"),
+          "`setq` is a form, which has no value and stands in an `always`, a process, a `par` or a branch", help=DEFINE),
+        F("E21", "wide", "`wide`" + NO_FUNCTION, help=DEFINE)]),
     ("deep.mp", True, [F("E5", ("(" * 64, "("), "the 65th list")]),
 ]
 

@@ -63,7 +63,8 @@ fn def_text(what: &[u8], way: &[u8]) -> &'static str {
         (b"signal", b"output") => "`(def NAME signal output PIN)`",
         (b"signal", b"internal") => "`(def NAME signal internal)`",
         (b"signal", _) => "`(def NAME signal input PIN)`, `output PIN` or `internal`",
-        _ => "`(def NAME register)`, or with `flag`, `constant`, `port` or `signal`",
+        (b"function", _) => "`(def NAME function (NAME ..) EXPRESSION)`",
+        _ => "`(def NAME register)`, or with `flag`, `constant`, `port`, `signal` or `function`",
     }
 }
 
@@ -84,21 +85,40 @@ fn is_among(words: &[&str], word: &[u8]) -> bool {
     words.iter().any(|other| other.as_bytes() == word)
 }
 
-fn is_operator(word: &[u8]) -> bool {
+/// Whether a word is an operator.
+pub(crate) fn is_operator(word: &[u8]) -> bool {
     op_of(word).is_some() || word == b"bit".as_slice()
 }
 
-// The word of a class of which another is like.
-fn likely(class: Class, word: &[u8]) -> Option<&'static str> {
-    let words: &[&'static str] = match class {
-        Class::Item => &ITEMS,
-        Class::Element | Class::Action => &FORMS,
-        _ => &OPERATORS,
-    };
+fn like<'a>(words: &[&'a str], word: &[u8]) -> Option<&'a str> {
     words
         .iter()
         .copied()
         .find(|other| is_like(other.as_bytes(), word))
+}
+
+/// The operator of which a word is like.
+pub(crate) fn operator_like(word: &[u8]) -> Option<&'static str> {
+    like(&OPERATORS, word)
+}
+
+// The word of a class of which another is like.
+fn likely(class: Class, word: &[u8]) -> Option<&'static str> {
+    match class {
+        Class::Item => like(&ITEMS, word),
+        _ => like(&FORMS, word),
+    }
+}
+
+/// What is said of a form or an item of a program where a value is wanted, or nothing of another word.
+pub(crate) fn without_value(head: &[u8]) -> &'static str {
+    if is_among(&FORMS, head) {
+        " is a form, which has no value and stands in an `always`, a process, a `par` or a branch"
+    } else if is_among(&ITEMS, head) {
+        " stands right in the program"
+    } else {
+        ""
+    }
 }
 
 // A head that no list of the class has.
@@ -167,10 +187,8 @@ fn tell_misplaced(
 ) -> Result<(), AllocError> {
     let what = if is_operator(head) {
         " gives a value, as in `(setq NAME (..))`"
-    } else if is_among(&FORMS, head) {
-        " is a form, which has no value and stands in an `always`, a process, a `par` or a branch"
     } else {
-        " stands right in the program"
+        without_value(head)
     };
     let words = [
         Piece::Text(wanted(class)),
@@ -249,6 +267,14 @@ fn tell_list(
             ]),
         ),
         _ if form || operator || item => tell_misplaced(findings, class, place, head),
+        Class::Value => findings.broken(
+            10,
+            place,
+            Note::new(&[
+                Piece::Quoted(head),
+                Piece::Text(" is used without an operand"),
+            ]),
+        ),
         _ => tell_unknown(findings, class, place, head),
     }
 }

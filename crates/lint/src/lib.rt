@@ -14,7 +14,9 @@ mod shapes;
 mod sorts;
 mod stimuli;
 mod unused;
+mod uses;
 mod verdict;
+mod view;
 mod whole;
 
 pub use file::File;

@@ -1,19 +1,12 @@
 //! Names that are defined twice, or not at all, or set although they are inputs: rules E20, E21 and E27.
 
+use crate::view::{View, def_text, is_function};
 use lint_words::{Findings, Note, Piece, is_like};
 use mp_base::{Name, Place};
 use mp_names::NameTable;
-use mp_program::{Def, ExprKind, FormKind, Program, Way, What};
+use mp_program::{Def, FormKind, Program, Way, What};
+use mp_written::ExprKind;
 use std::alloc::AllocError;
-
-/// The definition of a name.
-pub(crate) fn def_named<'a>(
-    program: &'a Program,
-    names: &NameTable<'_>,
-    name: &[u8],
-) -> Option<&'a Def> {
-    program.defs.as_slice().get(names.index_of(name) as usize)
-}
 
 /// What is defined, with its article.
 pub(crate) fn what_text(what: What) -> &'static str {
@@ -38,7 +31,8 @@ pub(crate) fn what_text(what: What) -> &'static str {
 // How many findings are enough: further names aren't looked up.
 const ENOUGH: usize = 200;
 
-fn is_enough(findings: &Findings) -> bool {
+/// Whether so much is told that further names needn't be looked up.
+pub(crate) fn is_enough(findings: &Findings) -> bool {
     findings.as_slice().len() >= ENOUGH
 }
 
@@ -183,17 +177,17 @@ fn judge_use<'a>(
 // Rule E27 at the target of a `setq`.
 fn judge_target(
     findings: &mut Findings,
-    program: &Program,
+    view: &View<'_>,
     names: &NameTable<'_>,
     target: &Name,
     place: Place,
 ) -> Result<(), AllocError> {
-    match def_named(program, names, target.bytes()) {
-        Some(def) if names.named(target.bytes()).unset => {
+    match view.known(target.bytes()) {
+        Some(def) if !is_function(def) && names.named(target.bytes()).unset => {
             let words = [
                 Piece::Quoted(target.bytes()),
                 Piece::Text(" is "),
-                Piece::Text(what_text(def.what)),
+                Piece::Text(def_text(def)),
             ];
             findings.broken(
                 27,
@@ -205,25 +199,28 @@ fn judge_target(
     }
 }
 
-/// Adds where a program breaks rules E20, E21 and E27.
+/// Adds where a program breaks rules E20, E21 and E27, by its frame.
 ///
 /// # Errors
 /// Want of memory.
 pub(crate) fn find_names(
     findings: &mut Findings,
-    program: &Program,
+    view: &View<'_>,
+    frame: &Program,
     names: &NameTable<'_>,
 ) -> Result<(), AllocError> {
-    find_repeated(findings, program, names)?;
-    for expr in program.exprs.as_slice() {
+    find_repeated(findings, frame, names)?;
+    for (index, expr) in view.program.exprs.as_slice().iter().enumerate() {
         if let ExprKind::Named(name) = &expr.kind {
-            judge_use(findings, program, names, name.bytes(), expr.place)?;
+            if !view.is_argument(index) {
+                judge_use(findings, frame, names, name.bytes(), expr.place)?;
+            }
         }
     }
-    for form in program.forms.as_slice() {
+    for form in view.program.forms.as_slice() {
         if let FormKind::Set { target, at, .. } = &form.kind {
-            judge_use(findings, program, names, target.bytes(), *at)?;
-            judge_target(findings, program, names, target, *at)?;
+            judge_use(findings, frame, names, target.bytes(), *at)?;
+            judge_target(findings, view, names, target, *at)?;
         }
     }
     Ok(())

@@ -17,18 +17,21 @@ use crate::shapes::find_shapes;
 use crate::sorts::find_sorts;
 use crate::stimuli::find_stimulus;
 use crate::unused::find_warnings;
+use crate::uses::find_uses;
 use crate::verdict::{judge_source, judge_stimulus};
+use crate::view::View;
 use crate::whole::find_whole;
 use form_reader::read_forms;
 use lint_words::{Finding, Findings, Grade, Note, Piece, meaning, push_pieces};
 use mp_base::{Broken, NoMemory, Pads, Place, Refusal, Spot};
 use mp_checker::Checked;
 use mp_names::NameTable;
-use mp_program::Program;
 use mp_syntax::parse;
+use mp_written::Program;
 use source_files::TEXT_LIMIT;
 use std::alloc::{AllocError, Global};
 use stimulus::Stimulus;
+use written_frame::frame;
 
 /// What is told of a source and a stimulus, and whether a rule is broken.
 #[derive(Drop)]
@@ -45,12 +48,15 @@ fn find_in_program(
     findings: &mut Findings,
     program: &Program,
 ) -> Result<(), AllocError> {
-    let names = NameTable::of(alloc, program)?;
-    find_names(findings, program, &names)?;
-    find_sorts(findings, program, &names)?;
-    find_numbers(alloc, findings, program)?;
-    find_jumps(alloc, findings, program)?;
-    find_whole(alloc, findings, program, &names)
+    let frame = frame(alloc, program)?;
+    let view = View::of(alloc, program)?;
+    let names = NameTable::of(alloc, &frame)?;
+    find_names(findings, &view, &frame, &names)?;
+    find_uses(alloc, findings, &view)?;
+    find_sorts(alloc, findings, &view)?;
+    find_numbers(alloc, findings, &frame)?;
+    find_jumps(alloc, findings, &frame)?;
+    find_whole(alloc, findings, program, &frame, &names)
 }
 
 // Mistakes of a source: of its text; or else of its forms; or else of its program.

@@ -1,11 +1,11 @@
 //! Bits where words are wanted, and words where bits are: rule E22.
 
-use crate::names::{def_named, what_text};
+use crate::view::{View, def_text, is_function};
 use lint_words::{Findings, Note, Piece, op_word};
-use mp_base::{Op, Place};
-use mp_names::NameTable;
-use mp_program::{Expr, ExprKind, FormKind, Program, What};
-use std::alloc::AllocError;
+use mp_base::{List, Op, Place};
+use mp_program::FormKind;
+use mp_written::{Def, Expr, ExprKind, What};
+use std::alloc::{AllocError, Global};
 
 #[derive(Clone, Copy, PartialEq, Eq)]
 enum Sort {
@@ -45,7 +45,8 @@ fn result_sort(op: Op) -> Sort {
     }
 }
 
-fn what_sort(what: What) -> Option<Sort> {
+// The sort of what is defined; a function has none, but its uses have.
+fn what_sort(what: &What) -> Option<Sort> {
     match what {
         What::Constant(_) | What::Register | What::Port(_) => Some(Sort::Word),
         What::Flag | What::Signal(_) => Some(Sort::Bit),
@@ -53,12 +54,39 @@ fn what_sort(what: What) -> Option<Sort> {
     }
 }
 
-fn sort_of(program: &Program, names: &NameTable<'_>, expr: &Expr) -> Option<Sort> {
+// The sort of an expression, where these are those of the bodies of functions.
+fn sort_of(view: &View<'_>, functions: &[Option<Sort>], index: usize) -> Option<Sort> {
+    let expr = view.program.exprs.as_slice().get(index)?;
     match &expr.kind {
         ExprKind::Number(_) => Some(Sort::Word),
         ExprKind::True | ExprKind::False => Some(Sort::Bit),
-        ExprKind::Named(name) => what_sort(def_named(program, names, name.bytes())?.what),
+        ExprKind::Named(_) if view.is_argument(index) => Some(Sort::Word),
+        ExprKind::Named(name) => what_sort(&view.known(name.bytes())?.what),
         ExprKind::Apply { op, .. } => Some(result_sort(*op)),
+        ExprKind::Use { .. } => {
+            let function = view.meaning(index)?.function?;
+            functions.get(function as usize).copied()?
+        }
+    }
+}
+
+// The sorts of the bodies of functions: one uses those before it alone.
+fn function_sorts(alloc: Global, view: &View<'_>) -> Result<Vec<Option<Sort>>, AllocError> {
+    let mut sorts = Vec::new(alloc);
+    for body in view.meanings.bodies.as_slice() {
+        let sort = sort_of(view, sorts.as_slice(), body.expr as usize);
+        sorts.push(sort)?;
+    }
+    Ok(sorts)
+}
+
+// What is defined by the name in an expression, or by the head of a use.
+fn meant<'a>(view: &View<'a>, index: usize, kind: &ExprKind) -> Option<&'a Def> {
+    match kind {
+        ExprKind::Named(_) if view.is_argument(index) => None,
+        ExprKind::Named(name) => view.known(name.bytes()),
+        ExprKind::Use { name, .. } => view.known(name.bytes()),
+        _ => None,
     }
 }
 
@@ -79,15 +107,15 @@ fn other_text(wanted: Sort) -> &'static str {
 
 fn judge_expr(
     findings: &mut Findings,
-    program: &Program,
-    names: &NameTable<'_>,
+    view: &View<'_>,
+    functions: &[Option<Sort>],
     index: u32,
     wish: Wish,
 ) -> Result<(), AllocError> {
-    let Some(expr) = program.exprs.as_slice().get(index as usize) else {
+    let Some(expr) = view.program.exprs.as_slice().get(index as usize) else {
         return Ok(());
     };
-    let Some(found) = sort_of(program, names, expr) else {
+    let Some(found) = sort_of(view, functions, index as usize) else {
         return Ok(());
     };
     if found == wish.sort {
@@ -104,53 +132,72 @@ fn judge_expr(
     ];
     let help = [Piece::Text(other_text(wish.sort))];
     let note = Note::new(&words).helped(&help);
-    let name = match &expr.kind {
-        ExprKind::Named(name) => name.bytes(),
-        _ => &[],
-    };
-    match def_named(program, names, name) {
-        Some(def) if !name.is_empty() => {
-            findings.broken(22, expr.place, note.beside(def.place, what_text(def.what)))
-        }
-        _ => findings.broken(22, expr.place, note),
+    match meant(view, index as usize, &expr.kind) {
+        Some(def) => findings.broken(22, expr.place, note.beside(def.place, def_text(def))),
+        None => findings.broken(22, expr.place, note),
     }
 }
 
-// The name of a process, at a place where only others may stand.
-fn judge_process(
+// The name of a process or function, at a place where only others may stand.
+fn judge_name(
     findings: &mut Findings,
-    names: &NameTable<'_>,
+    view: &View<'_>,
     name: &[u8],
     place: Place,
 ) -> Result<(), AllocError> {
-    if !names.named(name).process {
+    let function = match view.known(name) {
+        Some(def) => is_function(def),
+        None => false,
+    };
+    let what = if function {
+        " is a function, which has a value where it is used: `(NAME WORD ..)`"
+    } else if view.is_process(name) {
+        " is a process, which has no value"
+    } else {
         return Ok(());
-    }
-    let words = [
-        Piece::Quoted(name),
-        Piece::Text(" is a process, which has no value"),
-    ];
+    };
+    let words = [Piece::Quoted(name), Piece::Text(what)];
     findings.broken(22, place, Note::new(&words).helped(&[Piece::Text("")]))
+}
+
+fn judge_all(
+    findings: &mut Findings,
+    view: &View<'_>,
+    functions: &[Option<Sort>],
+    args: &List<u32>,
+    wish: Wish,
+) -> Result<(), AllocError> {
+    for arg in args.as_slice() {
+        judge_expr(findings, view, functions, *arg, wish)?;
+    }
+    Ok(())
 }
 
 fn judge_operands(
     findings: &mut Findings,
-    program: &Program,
-    names: &NameTable<'_>,
+    view: &View<'_>,
+    functions: &[Option<Sort>],
+    index: usize,
     expr: &Expr,
 ) -> Result<(), AllocError> {
     match &expr.kind {
-        ExprKind::Named(name) => judge_process(findings, names, name.bytes(), expr.place),
+        ExprKind::Named(_) if view.is_argument(index) => Ok(()),
+        ExprKind::Named(name) => judge_name(findings, view, name.bytes(), expr.place),
         ExprKind::Apply { op, args, .. } => {
             let wish = Wish {
                 sort: operand_sort(*op),
                 words: "as an operand of ",
                 name: op_word(*op).as_bytes(),
             };
-            for arg in args.as_slice() {
-                judge_expr(findings, program, names, *arg, wish)?;
-            }
-            Ok(())
+            judge_all(findings, view, functions, args, wish)
+        }
+        ExprKind::Use { name, args, .. } => {
+            let wish = Wish {
+                sort: Sort::Word,
+                words: "as an operand of ",
+                name: name.bytes(),
+            };
+            judge_all(findings, view, functions, args, wish)
         }
         _ => Ok(()),
     }
@@ -158,15 +205,15 @@ fn judge_operands(
 
 fn judge_setting(
     findings: &mut Findings,
-    program: &Program,
-    names: &NameTable<'_>,
+    view: &View<'_>,
+    functions: &[Option<Sort>],
     target: &[u8],
     value: u32,
 ) -> Result<(), AllocError> {
-    let Some(def) = def_named(program, names, target) else {
+    let Some(def) = view.known(target) else {
         return Ok(());
     };
-    let Some(sort) = what_sort(def.what) else {
+    let Some(sort) = what_sort(&def.what) else {
         return Ok(());
     };
     let wish = Wish {
@@ -174,7 +221,7 @@ fn judge_setting(
         words: "as the value of ",
         name: target,
     };
-    judge_expr(findings, program, names, value, wish)
+    judge_expr(findings, view, functions, value, wish)
 }
 
 /// Adds where a program breaks rule E22.
@@ -182,18 +229,20 @@ fn judge_setting(
 /// # Errors
 /// Want of memory.
 pub(crate) fn find_sorts(
+    alloc: Global,
     findings: &mut Findings,
-    program: &Program,
-    names: &NameTable<'_>,
+    view: &View<'_>,
 ) -> Result<(), AllocError> {
-    for expr in program.exprs.as_slice() {
-        judge_operands(findings, program, names, expr)?;
+    let sorts = function_sorts(alloc, view)?;
+    let functions = sorts.as_slice();
+    for (index, expr) in view.program.exprs.as_slice().iter().enumerate() {
+        judge_operands(findings, view, functions, index, expr)?;
     }
-    for form in program.forms.as_slice() {
+    for form in view.program.forms.as_slice() {
         match &form.kind {
             FormKind::Set { target, at, value } => {
-                judge_process(findings, names, target.bytes(), *at)?;
-                judge_setting(findings, program, names, target.bytes(), *value)?;
+                judge_name(findings, view, target.bytes(), *at)?;
+                judge_setting(findings, view, functions, target.bytes(), *value)?;
             }
             FormKind::Cond(branches) => {
                 for branch in branches.as_slice() {
@@ -202,7 +251,7 @@ pub(crate) fn find_sorts(
                         words: "as a guard of ",
                         name: b"cond",
                     };
-                    judge_expr(findings, program, names, branch.guard, wish)?;
+                    judge_expr(findings, view, functions, branch.guard, wish)?;
                 }
             }
             _ => {}

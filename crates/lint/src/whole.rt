@@ -1,20 +1,23 @@
 //! What a program as a whole may lack or have too much of: rules E33 to E45.
 
 ghost use Rattle.name_meanings.specs.Table.{IsNameTable};
+ghost use Rattle.written_frame.specs.Frame.{IsFrame};
 
 use evaluation_guesses::{Graph, climb};
 use lint_words::{Findings, Note, Piece, push_pieces};
 use mp_base::{Place, WEIGHT_LIMIT};
 use mp_limits::{
-    crowded_name, deep_process, empty_process, far_process, long_process, many_exprs,
-    missing_supply, without_reset,
+    crowded_name, deep_process, empty_process, far_process, long_process, missing_supply,
+    without_reset,
 };
 use mp_names::{Meanings, NameTable, meanings_of, repeated_name};
 use mp_order::{Evaluation, evaluation_order};
 use mp_program::{Program, What};
 use mp_rules::laws::own_names;
-use mp_weight::weight_within;
+use mp_written as written;
 use std::alloc::{AllocError, Global};
+use written_counts::{many_exprs, weight_within};
+use written_meanings::meanings_of as meant_of;
 
 // The most that is weighed.
 const SCALE: u32 = 1_000_000;
@@ -84,10 +87,12 @@ fn tell_chain(
 fn find_chain_and_weight(
     alloc: Global,
     findings: &mut Findings,
+    whole: &written::Program,
     program: &Program,
     names: &NameTable<'_>,
 ) -> Result<(), AllocError>
-    requires { IsNameTable program.now names.now }
+    requires frame { IsFrame whole.now program.now }
+    requires names { IsNameTable program.now names.now }
 {
     match repeated_name(program, names) {
         Some(_) => return Ok(()),
@@ -97,7 +102,8 @@ fn find_chain_and_weight(
     if let Evaluation::Closed(place) = evaluation_order(alloc, program, &meanings)? {
         tell_chain(alloc, findings, program, &meanings, place)?;
     }
-    match weight_within(alloc, program, &meanings, SCALE)? {
+    let meant = meant_of(alloc, whole)?;
+    match weight_within(alloc, whole, &meant, program, &meanings, SCALE)? {
         Some(weight) if weight > WEIGHT_LIMIT => {
             let words = [
                 Piece::Text("this program weighs "),
@@ -154,19 +160,21 @@ fn add(
     }
 }
 
-/// Adds where a program breaks rules E33 to E45.
+/// Adds where a program as a whole breaks rules E33 to E45, by its frame.
 ///
 /// # Errors
 /// Want of memory.
 pub(crate) fn find_whole(
     alloc: Global,
     findings: &mut Findings,
+    whole: &written::Program,
     program: &Program,
     names: &NameTable<'_>,
 ) -> Result<(), AllocError>
-    requires { IsNameTable program.now names.now }
+    requires frame { IsFrame whole.now program.now }
+    requires names { IsNameTable program.now names.now }
 {
-    find_chain_and_weight(alloc, findings, program, names)?;
+    find_chain_and_weight(alloc, findings, whole, program, names)?;
     let keeps = "this keeps something from clock to clock";
     add(findings, 34, without_reset(program), keeps)?;
     if let Some(place) = missing_supply(program) {
@@ -182,5 +190,6 @@ pub(crate) fn find_whole(
     add(findings, 41, far_process(program), "the 17th")?;
     add(findings, 42, long_process(program), "the 257th")?;
     add(findings, 43, deep_process(program), "8 is the most")?;
-    add(findings, 45, many_exprs(program), "")
+    let meant = meant_of(alloc, whole)?;
+    add(findings, 45, many_exprs(alloc, whole, &meant)?, "")
 }

@@ -43,6 +43,9 @@ fn source_meaning(number: u16) -> &'static str {
         34 => "the program keeps state and has no `reset`",
         35 => "a supply or a phase isn't defined",
         36 => "a process has no form",
+        37 => "a use has not one operand for each argument of its function",
+        38 => "a function or an argument has a name that means something else",
+        39 => "a body names more than arguments, constants and functions",
         40 => "there are over 256 names of definitions and processes",
         41 => "there are over 16 processes",
         42 => "a process has over 256 forms",
@@ -101,6 +104,7 @@ pub fn advice(rule: Rule) -> &'static str {
         (Family::E, 33) => "only registers and flags hold values from clock to clock",
         (Family::E, 34) => "add `(def reset signal input PIN)`, and set it in the first clock",
         (Family::E, 36) => "a process needs a form beside its labels",
+        (Family::E, 39) => "give the function an argument for it, and the use an operand",
         (Family::S, 1) =>
             "write `in NAME`, `in NAME WIDTH`, `out NAME`, `out NAME WIDTH` or `clock NAME=N ..`",
         (Family::E, number) => early_advice(number),
