@@ -105,3 +105,35 @@ def wide():
     """An `or` of as many operands as a weight has room for."""
     return ("(program wide 1 %s(def a signal input 6)(def s signal output 7)(always (setq s (or%s))))"
             % (SUPPLIES, " a" * 1014))
+
+
+def with_functions(functions, expression):
+    """A program of words of 8 bits with these functions, whose output is the expression."""
+    return ("(program functions 8 %s(def a port input %s)(def q port output %s)%s(always (setq q %s)))"
+            % (SUPPLIES, pins(6, 8), pins(14, 8), "".join(functions), expression))
+
+
+def summed(terms):
+    """The sum of these terms, nested as little as it may be."""
+    if len(terms) == 1:
+        return terms[0]
+    half = len(terms) // 2
+    return "(+ %s %s)" % (summed(terms[:half]), summed(terms[half:]))
+
+
+def multiplied(operand, uses):
+    """250 functions of which each uses the one before so many times: an expansion of `uses` to the power of 250 pieces."""
+    more = ["(def f%d function (v) %s)" % (k, summed(["(f%d %s)" % (k - 1, operand)] * uses)) for k in range(1, 250)]
+    return with_functions(["(def f0 function (v) (+ v v))"] + more, "(f249 a)")
+
+
+def dropped(uses=220):
+    """250 functions of which each uses the one before with an operand that the body drops: the expansion is `a`."""
+    more = ["(def f%d function (v w) (f%d v %s))" % (k, k - 1, summed(["(f%d w w)" % (k - 1)] * uses)) for k in range(1, 250)]
+    return with_functions(["(def f0 function (v w) v)"] + more, "(f249 a a)")
+
+
+def operands(count=80000):
+    """A use with many operands, of which the body reads one."""
+    names = " ".join("v%d" % k for k in range(count))
+    return with_functions(["(def first function (%s) v0)" % names], "(first%s)" % (" a" * count))

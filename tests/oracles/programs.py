@@ -54,10 +54,22 @@ WORDS = {
 }
 
 
+class Operands:
+    """The values of a function's arguments, each worked out when it is asked for."""
+    def __init__(self, program, operands, seen):
+        self.program, self.operands, self.seen, self.known = program, operands, seen, {}
+
+    def __getitem__(self, name):
+        if name not in self.known:
+            self.known[name] = self.program.value(self.operands[name], self.seen)
+        return self.known[name]
+
+
 class Program:
     def __init__(self, source):
         whole = forms(source)
         self.width, self.kinds, self.constants, self.always, self.processes = int(whole[2]), {}, {}, [], []
+        self.functions = {}
         for item in whole[3:]:
             if item[0] == "always":
                 self.always += item[1:]
@@ -71,6 +83,8 @@ class Program:
                 self.processes.append((int(item[2]), labels, steps))
             elif item[2] == "constant":
                 self.constants[item[1]] = int(item[3])
+            elif item[2] == "function":
+                self.functions[item[1]] = item[3], item[4]
             elif not item[1].isdigit():
                 self.kinds[item[1]] = (item[2], item[3] if len(item) > 3 else "stored")
         self.clear()
@@ -88,6 +102,9 @@ class Program:
             return self.constants[e] if e in self.constants else seen[e]
         if e[0] == "bit":
             return self.value(e[2], seen) >> int(e[1]) & 1
+        if e[0] in self.functions:
+            names, body = self.functions[e[0]]
+            return self.value(body, Operands(self, dict(zip(names, e[1:])), seen))
         xs = [self.value(x, seen) for x in e[1:]]
         return BITS[e[0]](xs) if e[0] in BITS else WORDS[e[0]](xs) % 2 ** self.width
 

@@ -33,10 +33,11 @@ impl Exits for Whole {
 }
 
 /// The lists of runs, each a file.
-const LISTS: [&str; 15] = [
+const LISTS: [&str; 16] = [
     "examples.txt",
     "sources.txt",
     "texts.txt",
+    "functions.txt",
     "stimuli.txt",
     "transfers.txt",
     "masks.txt",
