@@ -33,7 +33,7 @@ fn show(rt: &HostRuntime, framed: &Framed) -> io::Result<()> {
     Ok(())
 }
 
-/// The frame of one pad for row 6.
+/// The frame of one pad, which is joined at a height of 6 lambda.
 pub(crate) fn show_frames(rt: &HostRuntime) -> io::Result<()> {
     println!(rt; "frame of g at 6")?;
     match one(rt.alloc()) {
